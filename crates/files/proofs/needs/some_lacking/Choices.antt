@@ -1,0 +1,10 @@
+use mathlib.Core.Path.{_≡_}
+use lib.ListN.{length}
+use Rattle.layout.specs.Rules.{lacks}
+use Rattle.files.proofs.needs.some_lacking.Given as given
+
+abbrev pub Inv-loop-left : given.InvT-loop-left
+Inv-loop-left l = lacks (l .resources) (l .left) ≡ lacks (l .resources) (l .needs)
+
+abbrev pub μ-loop-left : given.MeasureT-loop-left
+μ-loop-left l = length (l .left)

@@ -1,0 +1,14 @@
+pub mod Lowest
+pub mod Paths
+pub mod Fronts
+pub mod Bodies
+pub mod Needs
+pub mod Positions
+pub mod Chunks
+pub mod Calm
+pub mod SoFar
+pub mod Wrote
+pub mod VenueLaw
+pub mod ShowOnly
+pub mod ShowThere
+pub mod Laws

@@ -1,0 +1,4 @@
+pub mod Model
+pub mod Valid
+pub mod Contents
+pub mod Plan
