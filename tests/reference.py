@@ -12,7 +12,7 @@ expected lines are the oracle's own.
 writes crates/cases/stdin, a line `LABEL VENUE SHOW` for each case (the files in hexadecimal, `-`
 for an empty one), and crates/cases/stdout, which has for each of them one of
 
-    LABEL accepted RESOURCES ROUTES POSITIONS
+    LABEL accepted RESOURCES ROUTES POSITIONS written VENUELENGTH SHOWLENGTH
     LABEL refused FILE NUMBER LAYER PLACE BYTE PARTLENGTH
     LABEL bad
 
@@ -593,16 +593,22 @@ def line(label, venue_file, show_file):
     return f"{label} {venue_file.hex() or '-'} {show_file.hex() or '-'}"
 
 
+def verdict(label, said, venue, show):
+    # What is accepted is written back to the byte, so the lengths are those of the files.
+    back = f" written {len(venue)} {len(show)}" if said.startswith("accepted") else ""
+    return f"{label} {said}{back}"
+
+
 def main():
     given, expected = [], []
     for label, venue_file, show_file, stated in NAMED:
         found = answer(venue_file, show_file)
         assert found == stated, f"{label}: stated {stated}, found {found}"
         given.append(line(label, venue_file, show_file))
-        expected.append(f"{label} {stated}")
+        expected.append(verdict(label, stated, venue_file, show_file))
     for label, venue_file, show_file in random_cases():
         given.append(line(label, venue_file, show_file))
-        expected.append(f"{label} {answer(venue_file, show_file)}")
+        expected.append(verdict(label, answer(venue_file, show_file), venue_file, show_file))
     for text in BAD_LINES:
         given.append(text)
         expected.append(f"{text.split()[0]} bad")

@@ -3,21 +3,46 @@
 mod case;
 mod hex;
 mod verdict;
+mod written;
 
 use case::files_of;
 use files::pair;
+use round_trip::back::show_back;
+use round_trip::back::venue_back;
 use std::io;
 use std::io::BufRead;
 use std::io::BufReader;
 use tables::reserve::Reserve;
+use tables::tables::Tables;
 use verdict::Accepted;
 use verdict::AcceptedDisplay;
 use verdict::Refused;
 use verdict::RefusedDisplay;
+use written::length_of;
+
+// An accepted pair is also written back, and compared with its files.
+fn answer_accepted(
+    rt: &LibcRuntime,
+    label: &str,
+    tables: &Tables,
+    venue: &[u8],
+    show: &[u8],
+) -> io::Result<()> {
+    let mut space = vec![in rt.alloc(); 0u8; venue.len().max(show.len())]?;
+    let venue = venue_back(&tables.venue, venue, space.as_mut_slice());
+    let show = show_back(&tables.show, show, space.as_mut_slice());
+    println!(
+        rt,
+        "{label} {} written {} {}",
+        Accepted::of(tables),
+        length_of(venue),
+        length_of(show)
+    )
+}
 
 fn answer(rt: &LibcRuntime, label: &str, venue: &[u8], show: &[u8]) -> io::Result<()> {
     match pair::read(Reserve::take(rt.alloc())?, venue, show) {
-        Ok(tables) => println!(rt, "{label} {}", Accepted::of(&tables)),
+        Ok(tables) => answer_accepted(rt, label, &tables, venue, show),
         Err(fault) => println!(rt, "{label} {}", Refused::of(fault, venue, show)),
     }
 }

@@ -2,6 +2,7 @@
 // read, or where they are refused, what is wrong with them.
 mod sheet;
 mod texts;
+mod trip;
 
 use files::pair;
 use std::fs;
@@ -22,7 +23,10 @@ fn main(rt: LibcRuntime) -> io::Result<()> {
     let venue = bytes_of(&rt, "venue.bin")?;
     let show = bytes_of(&rt, "show.bin")?;
     match pair::read(Reserve::take(heap)?, venue.as_slice(), show.as_slice()) {
-        Ok(tables) => sheet::print(&rt, &tables),
+        Ok(tables) => {
+            sheet::print(&rt, &tables)?;
+            trip::print(&rt, &tables, venue.as_slice(), show.as_slice())
+        }
         Err(fault) => rt.println(refusal_text(heap, fault)?),
     }
 }

@@ -1,0 +1,5 @@
+pub mod Joins
+pub mod Sizes
+pub mod Needs
+pub mod Places
+pub mod Shows
