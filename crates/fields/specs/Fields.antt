@@ -18,9 +18,9 @@ use Rattle.fields.specs.declared.field.Field.the-variants.{Header, Resource, R
 use Rattle.fields.specs.declared.faults.FieldFault.{FieldFault}
 use Rattle.fields.specs.declared.faults.FieldFault.the-variants.{Bytes, UnfamiliarTag, OutOfTurn, WrongLength, OutOfRange}
 use Rattle.fields.specs.declared.faults.ByteFault.{ByteFault}
-use Rattle.fields.specs.declared.faults.ByteFault.the-variants.{HeadCut, BodyCut, AfterEnd}
+use Rattle.fields.specs.declared.faults.ByteFault.the-variants.{AfterEnd}
 use Rattle.fields.specs.declared.reader.FieldReader.{FieldReader}
-use Rattle.fields.specs.Bytes.{word, tag, body, headCut, bodyCut, Point, spotAt, Piece, piece, cutOff}
+use Rattle.fields.specs.Bytes.{word, Point, spotAt, Piece, piece, cutOff}
 
 -- kind and version; capacity, order and name; the count of positions; the next positions and the bytes of the needs
 pub data Part : Type 0 where

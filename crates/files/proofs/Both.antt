@@ -1,6 +1,6 @@
 -- A pair of files has one outcome only.
-use mathlib.Core.Path.{_≡_, refl, sym, ap, subst, _∙_}
-use mathlib.Core.Logic.{_⊎_, inl, inr, ⊎-elim}
+use mathlib.Core.Path.{_≡_, sym, subst}
+use mathlib.Core.Logic.{_⊎_, inr, ⊎-elim}
 use mathlib.Core.Bool.{true}
 use mathlib.Core.List.{List, []}
 use Prim.Native.Nat.{ℕ, _<_}
@@ -9,14 +9,11 @@ use lib.ListN.{length, getD}
 use Rattle.std.specs.shelf.Lists.{All}
 use Rattle.std.proofs.shelf.Elements.{all-from-getD}
 use Rattle.std.proofs.shelf.Tests.{and-parts, leb-true}
-use Rattle.std.specs.declared.result.Result.{Result}
-use Rattle.std.specs.declared.result.Result.the-variants.{Ok, Err}
 use Rattle.faults.specs.declared.layers.FitFault.{FitFault}
 use Rattle.tables.specs.declared.resource.Resource.{Resource}
-use Rattle.tables.specs.declared.tables.Tables.{Tables}
 use Rattle.tables.specs.Model.{Pos}
 use Rattle.tables.specs.Valid.{validVenue}
-use Rattle.tables.specs.Contents.{Contents, contents, Valid}
+use Rattle.tables.specs.Contents.{Contents}
 use Rattle.layout.specs.Layout.{venueFile}
 use Rattle.layout.specs.Reading.{FirstBad, Ends, venueStart, showStart, FaultOf}
 use Rattle.layout.proofs.Paths.{one-end, not-both}
@@ -24,7 +21,7 @@ use Rattle.layout.proofs.Fronts.{Byte}
 use Rattle.layout.proofs.VenueLaw.{venue-only, venue-there}
 use Rattle.layout.proofs.ShowOnly.{show-only}
 use Rattle.layout.proofs.ShowThere.{show-there}
-use Rattle.files.specs.Pairs.{Laid, Holds}
+use Rattle.files.specs.Pairs.{Laid}
 
 module _ (venue show : List ℕ) where
   venue-ends : (rs : List Resource) → validVenue rs ≡ true → venue ≡ venueFile rs → Ends (venueStart venue) rs [] []

@@ -2,7 +2,7 @@
 use mathlib.Core.Path.{_≡_, refl, sym, ap, subst, _∙_}
 use mathlib.Core.Bool.{Bool, true, false, cond, not}
 use mathlib.Core.List.{List, [], _∷_}
-use Prim.Native.Nat.{ℕ, _≤_}
+use Prim.Native.Nat.{ℕ}
 use native.Mathlib.Omega.{arith}
 use Rattle.std.specs.shelf.Lists.{All}
 use Rattle.std.proofs.shelf.Tests.{not-false}
@@ -20,7 +20,6 @@ use Rattle.fields.specs.declared.faults.ByteFault.the-variants.{HeadCut, BodyCu
 use Rattle.fields.specs.declared.faults.FieldFault.{FieldFault}
 use Rattle.fields.specs.declared.faults.FieldFault.the-variants.{Bytes, UnfamiliarTag, OutOfTurn, WrongLength, OutOfRange}
 use Rattle.faults.specs.Faults.{refusalOf, spotOf}
-use Rattle.faults.specs.declared.layers.FitFault.{FitFault}
 use Rattle.faults.specs.declared.layers.FitFault.the-variants.{Tables}
 use Rattle.faults.specs.declared.layers.TableFault.the-variants.{Fields}
 use Rattle.layout.specs.Rules.{Context, Rule, rule, tooMany, wrongNext, notInVenue, aboveCapacity, fieldRules}

@@ -17,7 +17,6 @@ use Rattle.fields.specs.Bytes.{tag, body, Point, past, spotAt}
 use Rattle.fields.specs.Fields.{Part, position, partAt, nextBytes, needBytes, nextField}
 use Rattle.fields.specs.declared.spot.File.the-variants.{Show}
 use Rattle.fields.specs.declared.spot.Spot.{Spot}
-use Rattle.fields.specs.declared.field.Turn.{Turn}
 use Rattle.fields.specs.declared.field.Turn.the-variants.{FirstRoute, MoreRoutes, InRoute}
 use Rattle.fields.specs.declared.faults.FieldFault.{FieldFault}
 use Rattle.faults.specs.Faults.{refusalOf, spotOf}

@@ -1,7 +1,7 @@
 -- One turn of the loop over a show's routes.
-use mathlib.Core.Path.{_≡_, refl, sym, ap, subst, _∙_}
+use mathlib.Core.Path.{_≡_, sym, ap, subst, _∙_}
 use mathlib.Core.Bool.{Bool, true, false, cond, _||_}
-use mathlib.Core.List.{List, [], _∷_, _++_, map}
+use mathlib.Core.List.{List, [], _∷_, _++_}
 use Prim.Native.Nat.{ℕ, _+_, _-_, _≤_, _<_}
 use native.Mathlib.Omega.{arith}
 use lib.Dec.{eqb, leb, ltb}
@@ -17,7 +17,7 @@ use Rattle.std.proofs.shelf.Sums.{sumBy-push, sumBy-cons}
 use Rattle.std.proofs.shelf.Tests.{lt-leb, le-ltb, or-from}
 use Rattle.refusals.specs.declared.Refusal.the-variants as refusal
 use Rattle.fields.specs.Bytes.{tag, body, Point, pointAt, past, spotAt}
-use Rattle.fields.specs.Fields.{Part, route, front, allowed, partAt, pointOf, nextField, finished, closed}
+use Rattle.fields.specs.Fields.{Part, route, front, partAt, pointOf, nextField, finished, closed}
 use Rattle.fields.specs.declared.reader.FieldReader.{FieldReader}
 use Rattle.fields.specs.declared.spot.File.the-variants.{Show}
 use Rattle.fields.specs.declared.spot.Spot.{Spot}
@@ -38,7 +38,7 @@ use Rattle.layout.proofs.Paths.{follow, advance, bad-later}
 use Rattle.layout.proofs.Lowest.{firstOf}
 use Rattle.layout.proofs.Wrote.{not-over-inside}
 use Rattle.files.specs.Steps.{fieldAs, closedAs, showAt}
-use Rattle.files.proofs.Next.{laterRules, next-part, next-may}
+use Rattle.files.proofs.Next.{laterRules, next-part}
 use Rattle.files.proofs.Standings.{read-bad, tables-bad, read-fine, head-bad, head-good, end-good, end-bad}
 
 -- where the loop stands

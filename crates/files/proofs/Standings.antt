@@ -1,12 +1,10 @@
 -- What a read field, or a fault, says of the standing at which the reader was.
 use mathlib.Core.Path.{_≡_, refl, sym, ap, subst, _∙_}
-use mathlib.Core.Bool.{true, false}
 use mathlib.Core.List.{List, [], _∷_}
 use Prim.Native.Nat.{ℕ}
 use native.Mathlib.Omega.{arith}
 use lib.ListN.{length}
 use Rattle.std.specs.declared.option.Option.the-variants.{Some, None}
-use Rattle.std.specs.declared.result.Result.{Result}
 use Rattle.std.specs.declared.result.Result.the-variants.{Ok, Err}
 use Rattle.std.proofs.shelf.Tests.{eqb-true, ne-eqb, not-from-false}
 use Rattle.refusals.specs.declared.Refusal.{Refusal}
@@ -24,7 +22,7 @@ use Rattle.faults.specs.declared.layers.FitFault.{FitFault}
 use Rattle.faults.specs.declared.layers.FitFault.the-variants.{Tables}
 use Rattle.faults.specs.declared.layers.TableFault.the-variants.{Fields}
 use Rattle.tables.specs.declared.resource.Resource.{Resource}
-use Rattle.layout.specs.Rules.{Moment, outset, inside, over, Context, Rule, turnAt, fieldRules, rulesAt, withField}
+use Rattle.layout.specs.Rules.{Moment, outset, inside, over, Context, turnAt, fieldRules, rulesAt, withField}
 use Rattle.layout.specs.Reading.{Applies, Lowest, Standing, rulesHere, Fine, Reaches, FirstBad, Ends, fresh}
 use Rattle.layout.proofs.Lowest.{firstOf, first-lowest, passes}
 use Rattle.layout.proofs.Paths.{stay, advance, bad-later}

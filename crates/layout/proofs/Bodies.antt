@@ -1,19 +1,18 @@
 -- The body of each kind of field, against what is read of it.
-use mathlib.Core.Path.{_≡_, refl, sym, ap, subst, _∙_}
-use mathlib.Core.Bool.{Bool, true, false, not, _&&_, _||_}
-use mathlib.Core.List.{List, [], _∷_, _++_}
-use Prim.Native.Nat.{ℕ, _+_, _*_, _/_, _%_, _≤_, _<_}
+use mathlib.Core.Path.{_≡_, refl}
+use mathlib.Core.Bool.{true, false, not, _&&_}
+use mathlib.Core.List.{List, [], _∷_}
+use Prim.Native.Nat.{ℕ, _/_, _%_, _≤_, _<_}
 use native.Mathlib.Omega.{arith}
-use lib.Dec.{leb, ltb, eqb}
-use lib.ListN.{length, take, drop, getD}
+use lib.Dec.{eqb}
+use lib.ListN.{length, getD}
 use Rattle.std.specs.shelf.Lists.{All}
-use Rattle.std.proofs.shelf.Tests.{eqb-true, eqb-false, not-false, and-parts, and-from, or-parts, ltb-false, le-leb, lt-ltb, eq-eqb}
+use Rattle.std.proofs.shelf.Tests.{eqb-true, eqb-false, not-false, and-parts, and-from, le-leb, lt-ltb, eq-eqb}
 use Rattle.std.proofs.shelf.Bits.{div-mul-add, mod-mul-add}
 use Rattle.fields.specs.Bytes.{word}
 use Rattle.fields.specs.Fields.{front, kindByte}
 use Rattle.fields.specs.declared.spot.File.{File}
-use Rattle.tables.specs.Valid.{every, byte, short, validResource}
-use Rattle.tables.specs.declared.resource.Resource.{Resource}
+use Rattle.tables.specs.Valid.{every, byte, validResource}
 use Rattle.layout.specs.Rules.{resourceAt}
 use Rattle.layout.proofs.Fronts.{Byte}
 

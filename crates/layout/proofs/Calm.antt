@@ -1,13 +1,12 @@
 -- A field that no refusal applies to: what stands there, and that one which is written so is such a field.
-use mathlib.Core.Path.{_≡_, refl, sym, ap, subst, _∙_}
-use mathlib.Core.Bool.{true, false}
+use mathlib.Core.Path.{_≡_, sym, subst}
+use mathlib.Core.Bool.{true}
 use mathlib.Core.List.{List, [], _∷_, _++_}
 use Prim.Native.Nat.{ℕ, _+_}
 use lib.ListN.{drop}
 use Rattle.std.specs.shelf.Lists.{All}
 use Rattle.std.proofs.shelf.Elements.{all-drop}
 use Rattle.std.proofs.shelf.Tests.{not-false, not-from-true}
-use Rattle.refusals.specs.declared.Refusal.{Refusal}
 use Rattle.refusals.specs.declared.Refusal.the-variants.{WrongLength, OutOfRange, TooMany, WrongNext, NotInVenue, AboveCapacity}
 use Rattle.fields.specs.Bytes.{tag, body, fieldSize, Point, pointAt}
 use Rattle.fields.specs.Fields.{familiar, allowed, wrongLength, outOfRange}
@@ -15,7 +14,7 @@ use Rattle.fields.specs.declared.spot.File.{File}
 use Rattle.fields.specs.declared.field.Turn.{Turn}
 use Rattle.layout.specs.Layout.{field}
 use Rattle.layout.specs.Rules.{Context, Rule, rule, tooMany, wrongNext, notInVenue, aboveCapacity, fieldRules, withField}
-use Rattle.layout.specs.Reading.{Standing, onward}
+use Rattle.layout.specs.Reading.{onward}
 use Rattle.layout.proofs.Lowest.{Unbroken}
 use Rattle.layout.proofs.Fronts.{Byte, body-back, rest-back, head-there, body-there, front-field, body-bytes}
 

@@ -1,10 +1,10 @@
 -- Positions shared out to routes, as they come one by one.
 use mathlib.Core.Path.{_≡_, refl, sym, ap, subst, _∙_}
-use mathlib.Core.List.{List, [], _∷_, _++_, append-nil}
-use Prim.Native.Nat.{ℕ, suc, _+_, _-_, _≤_, _<_}
+use mathlib.Core.List.{List, [], _∷_, _++_}
+use Prim.Native.Nat.{ℕ, suc, _+_, _-_, _≤_}
 use native.Mathlib.Omega.{arith}
-use lib.ListN.{length, take, drop, length-drop, length-append}
-use Rattle.std.specs.shelf.Lists.{sum, sumBy}
+use lib.ListN.{length, take, drop, length-drop}
+use Rattle.std.specs.shelf.Lists.{sum}
 use Rattle.std.proofs.shelf.Lists.{take-all, drop-all, take-append-le, drop-append-le, nil-from-length, length-push}
 use Rattle.std.proofs.shelf.Sums.{sumBy-cons}
 use Rattle.tables.specs.Model.{Pos, Chunk, chunks}

@@ -1,11 +1,9 @@
 -- The laws of reading.
 use mathlib.Core.Path.{_≡_, refl, sym, ap, subst, _∙_}
 use mathlib.Core.Bool.{true}
-use Prim.Native.Nat.{_≤_}
 use native.Mathlib.Omega.{arith}
 use Rattle.std.specs.shelf.Lists.{All}
 use Rattle.std.proofs.shelf.Tests.{not-false}
-use Rattle.refusals.specs.Refusals.{numberOf}
 use Rattle.fields.specs.Bytes.{tag, Point, spotAt}
 use Rattle.fields.specs.Fields.{familiar}
 use Rattle.faults.specs.Faults.{refusalOf}

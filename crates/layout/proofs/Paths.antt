@@ -1,6 +1,6 @@
 -- Ways through a file.
 use mathlib.Core.Path.{_≡_, refl, sym, ap, subst, _∙_}
-use mathlib.Core.Bool.{true, false}
+use mathlib.Core.Bool.{false}
 use mathlib.Core.List.{List, []}
 use Prim.Native.Nat.{ℕ, zero, suc}
 use Rattle.std.specs.shelf.Lists.{All}
@@ -8,8 +8,7 @@ use Rattle.tables.specs.declared.resource.Resource.{Resource}
 use Rattle.tables.specs.Model.{Pos}
 use Rattle.faults.specs.declared.layers.FitFault.{FitFault}
 use Rattle.faults.specs.Faults.{refusalOf}
-use Rattle.fields.specs.Bytes.{Point}
-use Rattle.layout.specs.Rules.{over, Context, rulesAt}
+use Rattle.layout.specs.Rules.{over, rulesAt}
 use Rattle.layout.specs.Reading.{Applies, Standing, rulesHere, Fine, onward, Leads, Reaches, FirstBad, Ends}
 use Rattle.layout.proofs.Lowest.{passes}
 

@@ -1,8 +1,8 @@
 -- A position's body, against the position that is read of it.
-use mathlib.Core.Path.{_≡_, refl, sym, ap, subst, _∙_}
-use mathlib.Core.Bool.{Bool, true, false, not, _&&_, _||_}
+use mathlib.Core.Path.{_≡_, refl, ap, _∙_}
+use mathlib.Core.Bool.{true, false, not, _||_}
 use mathlib.Core.List.{List, [], _∷_, _++_}
-use Prim.Native.Nat.{ℕ, _+_, _-_, _%_, _≤_, _<_}
+use Prim.Native.Nat.{ℕ, _+_, _-_, _%_, _≤_}
 use native.Mathlib.Omega.{arith}
 use lib.Dec.{leb, ltb, eqb}
 use lib.ListN.{length, take, drop, length-take, length-drop, length-append}
@@ -12,7 +12,7 @@ use Rattle.std.proofs.shelf.Elements.{all-drop}
 use Rattle.std.proofs.shelf.Tests.{and-parts, and-from, or-parts, or-from, not-false, not-from-true, ltb-false, le-ltb, leb-true, le-leb, eqb-true, eq-eqb}
 use Rattle.fields.specs.Fields.{nextCount, nextBytes, needBytes, ragged, rises}
 use Rattle.tables.specs.Model.{Pos}
-use Rattle.tables.specs.Valid.{every, short, nextsOk, needsFit, validPosition}
+use Rattle.tables.specs.Valid.{nextsOk, needsFit, validPosition}
 use Rattle.tables.specs.declared.resource.Resource.{Resource}
 use Rattle.layout.specs.Layout.{needFields}
 use Rattle.layout.specs.Rules.{lacks, exceeds, needRow, positionAt}

@@ -1,14 +1,14 @@
 -- A show file that is accepted is the layout of a valid show that fits the venue.
 use mathlib.Core.Path.{_≡_, refl, sym, ap, subst, _∙_}
 use mathlib.Core.Logic.{_⊎_, inl, inr, ⊎-elim}
-use mathlib.Core.Bool.{Bool, true, false, cond, not, _&&_, _||_}
+use mathlib.Core.Bool.{Bool, true, false, cond}
 use mathlib.Core.List.{List, [], _∷_, _++_, append-assoc, append-nil}
-use Prim.Native.Nat.{ℕ, suc, _+_, _-_, _≤_, _<_}
+use Prim.Native.Nat.{ℕ, suc, _+_, _-_, _≤_}
 use native.Mathlib.Omega.{arith}
 use lib.Dec.{leb, ltb, eqb}
 use lib.ListN.{length}
 use Rattle.std.specs.Joined.{joined}
-use Rattle.std.specs.shelf.Lists.{All, sum}
+use Rattle.std.specs.shelf.Lists.{All}
 use Rattle.std.proofs.shelf.Lists.{length-push}
 use Rattle.std.proofs.shelf.Tests.{eqb-true, eqb-false, eq-eqb, leb-false, le-leb, ltb-false, or-cases, or-parts, and-parts, and-from}
 use Rattle.fields.specs.Fields.{allowed, front}
@@ -26,7 +26,7 @@ use Rattle.layout.proofs.Bodies.{route-body, end-body}
 use Rattle.layout.proofs.Positions.{Sound, position-read}
 use Rattle.layout.proofs.Chunks.{Shared, shared-sum, shared-route, shared-position, chunks-route, chunks-position}
 use Rattle.layout.proofs.Calm.{bodyRules}
-use Rattle.layout.proofs.SoFar.{written, SoFar, More, End, so-far}
+use Rattle.layout.proofs.SoFar.{written, More, End, so-far}
 use Rattle.layout.proofs.Wrote.{joined-push, every-append, every-parts}
 
 -- one position more behind those of a route

@@ -1,15 +1,15 @@
 -- The layout of a valid show that fits the venue is accepted, and read as that show.
 use mathlib.Core.Path.{_≡_, refl, sym, ap, subst, _∙_}
-use mathlib.Core.Bool.{Bool, true, false, cond, not, _&&_, _||_}
+use mathlib.Core.Bool.{Bool, true, false, cond}
 use mathlib.Core.List.{List, [], _∷_, _++_, append-assoc, append-nil}
-use Prim.Native.Nat.{ℕ, suc, _+_, _-_, _/_, _%_, _≤_, _<_}
+use Prim.Native.Nat.{ℕ, _+_, _-_, _/_, _%_, _≤_, _<_}
 use native.Mathlib.Omega.{arith}
-use lib.Dec.{leb, ltb, eqb}
+use lib.Dec.{leb, eqb}
 use lib.ListN.{length, take, drop, length-take, length-drop, length-append}
 use Rattle.std.specs.Joined.{joined}
-use Rattle.std.specs.shelf.Lists.{All, sum}
+use Rattle.std.specs.shelf.Lists.{sum}
 use Rattle.std.proofs.shelf.Lists.{length-push, nil-from-length, take-append-drop}
-use Rattle.std.proofs.shelf.Tests.{eqb-true, eq-eqb, ne-eqb, leb-true, lt-leb, le-ltb, or-from, and-parts}
+use Rattle.std.proofs.shelf.Tests.{eqb-true, ne-eqb, leb-true, lt-leb, le-ltb, or-from, and-parts}
 use Rattle.std.proofs.shelf.Bits.{div-add-mod'}
 use Rattle.fields.specs.Bytes.{fieldSize, pointAt}
 use Rattle.fields.specs.Fields.{allowed, kindByte, front}
@@ -18,14 +18,12 @@ use Rattle.fields.specs.declared.field.Turn.the-variants.{Head, FirstRoute, Mor
 use Rattle.tables.specs.Model.{Pos, Chunk, chunks}
 use Rattle.tables.specs.Valid.{every, validPosition, validPositions, validChunk, validShow, needsFit, fitsVenue}
 use Rattle.tables.specs.declared.resource.Resource.{Resource}
-use Rattle.layout.specs.Layout.{field, headerField, routeField, positionField, endField, chunkFields, showFile}
-use Rattle.layout.specs.Rules.{Moment, outset, inside, over, Context, turnInside, positionAt, withField}
+use Rattle.layout.specs.Layout.{headerField, routeField, positionField, endField, chunkFields, showFile}
+use Rattle.layout.specs.Rules.{Moment, outset, inside, over, Context, turnInside}
 use Rattle.layout.specs.Reading.{Standing, Reaches, Ends, showStart}
-use Rattle.layout.proofs.Lowest.{Unbroken}
 use Rattle.layout.proofs.Paths.{stay, follow}
 use Rattle.layout.proofs.Positions.{positionBody, position-written}
 use Rattle.layout.proofs.Chunks.{total}
-use Rattle.layout.proofs.Calm.{bodyRules}
 use Rattle.layout.proofs.Wrote.{every-parts, not-over-outset, not-over-inside, wrote}
 
 may-route : (none : Bool) → allowed (cond none FirstRoute MoreRoutes) 0x20 ≡ true

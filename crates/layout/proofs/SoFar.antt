@@ -1,9 +1,9 @@
 -- What was read so far is what is written of it: of either file, step by step.
 use mathlib.Core.Path.{_≡_, refl, sym, ap, subst, _∙_}
-use mathlib.Core.Logic.{_⊎_, inl, inr, ⊎-elim}
-use mathlib.Core.Bool.{true, false}
+use mathlib.Core.Logic.{_⊎_, ⊎-elim}
+use mathlib.Core.Bool.{true}
 use mathlib.Core.List.{List, [], _∷_, _++_, append-assoc, append-nil}
-use Prim.Native.Nat.{ℕ, zero, suc}
+use Prim.Native.Nat.{ℕ}
 use lib.ListN.{drop}
 use Rattle.std.specs.shelf.Lists.{All}
 use Rattle.std.proofs.shelf.Tests.{eqb-true}
@@ -13,12 +13,12 @@ use Rattle.fields.specs.declared.spot.File.{File}
 use Rattle.fields.specs.declared.field.Turn.the-variants.{Head}
 use Rattle.layout.specs.Layout.{field, headerField, endField}
 use Rattle.layout.specs.Rules.{Moment, outset, inside, over, Context, turnInside, rulesAt, withField}
-use Rattle.layout.specs.Reading.{Standing, rulesHere, Fine, onward, Leads, Reaches}
+use Rattle.layout.specs.Reading.{Standing, rulesHere, onward, Reaches}
 use Rattle.layout.proofs.Lowest.{Unbroken, unbroken}
 use Rattle.layout.proofs.Paths.{keep}
 use Rattle.layout.proofs.Fronts.{Byte}
 use Rattle.layout.proofs.Bodies.{header-body}
-use Rattle.layout.proofs.Calm.{bodyRules, Whole, calm-whole}
+use Rattle.layout.proofs.Calm.{bodyRules, calm-whole}
 
 -- a field more, of the header's file
 whole-more : (bytes head old new fld left rest : List ℕ) → bytes ≡ (head ++ old) ++ left → left ≡ fld ++ rest → new ≡ old ++ fld → bytes ≡ (head ++ new) ++ rest

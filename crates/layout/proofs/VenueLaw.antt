@@ -1,12 +1,12 @@
 -- A venue file is read exactly if it is the layout of valid resources.
 use mathlib.Core.Path.{_≡_, refl, sym, ap, subst, _∙_}
 use mathlib.Core.Logic.{_⊎_, inl, inr, ⊎-elim}
-use mathlib.Core.Bool.{Bool, true, false, cond, _&&_}
+use mathlib.Core.Bool.{Bool, true, false, cond}
 use mathlib.Core.List.{List, [], _∷_, _++_, append-assoc, append-nil}
 use Prim.Native.Nat.{ℕ, _+_, _/_, _%_, _≤_, _<_}
 use native.Mathlib.Omega.{arith}
 use lib.Dec.{leb, eqb}
-use lib.ListN.{length, length-append}
+use lib.ListN.{length}
 use Rattle.std.specs.Joined.{joined}
 use Rattle.std.specs.shelf.Lists.{All}
 use Rattle.std.proofs.shelf.Lists.{length-push}
@@ -27,7 +27,7 @@ use Rattle.layout.proofs.Paths.{stay, follow}
 use Rattle.layout.proofs.Fronts.{Byte}
 use Rattle.layout.proofs.Bodies.{resource-body, end-body}
 use Rattle.layout.proofs.Calm.{bodyRules}
-use Rattle.layout.proofs.SoFar.{written, SoFar, More, End, so-far}
+use Rattle.layout.proofs.SoFar.{written, More, End, so-far}
 use Rattle.layout.proofs.Wrote.{joined-push, every-append, not-over-outset, not-over-inside, wrote}
 
 abbrev tables : Context → List ℕ

@@ -1,6 +1,6 @@
 -- A written field is read and passed.
-use mathlib.Core.Path.{_≡_, refl, sym, ap, subst, _∙_}
-use mathlib.Core.Bool.{Bool, true, false, _&&_}
+use mathlib.Core.Path.{_≡_, refl, sym, subst}
+use mathlib.Core.Bool.{Bool, true}
 use mathlib.Core.List.{List, [], _∷_, _++_}
 use Prim.Native.Nat.{ℕ, _+_}
 use native.Mathlib.Omega.{arith}
@@ -9,13 +9,13 @@ use Rattle.std.specs.shelf.Lists.{All}
 use Rattle.std.proofs.shelf.Lists.{joined-more}
 use Rattle.std.proofs.shelf.Tests.{and-parts, and-from}
 use Rattle.fields.specs.Bytes.{fieldSize, pointAt}
-use Rattle.fields.specs.Fields.{familiar, allowed, kindByte}
+use Rattle.fields.specs.Fields.{familiar, allowed}
 use Rattle.fields.specs.declared.spot.File.{File}
 use Rattle.fields.specs.declared.field.Turn.{Turn}
 use Rattle.tables.specs.Valid.{every}
 use Rattle.layout.specs.Layout.{field}
-use Rattle.layout.specs.Rules.{outset, inside, over, Context, Rule, rules, fieldRules, withField}
-use Rattle.layout.specs.Reading.{Standing, Reaches}
+use Rattle.layout.specs.Rules.{outset, inside, over, Context, rules, fieldRules, withField}
+use Rattle.layout.specs.Reading.{Reaches}
 use Rattle.layout.proofs.Lowest.{Unbroken, passes}
 use Rattle.layout.proofs.Calm.{bodyRules, calm-written, onward-written}
 

@@ -4,11 +4,9 @@ use mathlib.Core.Logic.{_⊎_}
 use mathlib.Core.Bool.{true}
 use mathlib.Core.List.{List, [], _∷_}
 use Prim.Native.Nat.{ℕ, zero, suc, _≤_}
-use lib.ListN.{length}
 use Rattle.refusals.specs.declared.Refusal.{Refusal}
 use Rattle.refusals.specs.Refusals.{numberOf}
 use Rattle.fields.specs.Bytes.{tag, body, Point, past, spotAt}
-use Rattle.fields.specs.declared.spot.File.{File}
 use Rattle.fields.specs.declared.spot.File.the-variants.{Venue, Show}
 use Rattle.tables.specs.declared.resource.Resource.{Resource}
 use Rattle.tables.specs.Model.{Pos}
@@ -16,7 +14,7 @@ use Rattle.tables.specs.Valid.{validVenue}
 use Rattle.faults.specs.declared.layers.FitFault.{FitFault}
 use Rattle.faults.specs.Faults.{refusalOf, spotOf}
 use Rattle.layout.specs.Layout.{venueFile}
-use Rattle.layout.specs.Rules.{Moment, outset, inside, over, Context, Rule, rules, withField}
+use Rattle.layout.specs.Rules.{outset, over, Context, Rule, rules, withField}
 
 -- the refusal applies: its rule is in the list, and broken
 abbrev pub Applies : Refusal → List Rule → Type 0

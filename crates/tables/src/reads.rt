@@ -2,7 +2,7 @@
 ghost use mathlib.Core.Path.{_≡_};
 ghost use Rattle.std.specs.Of.Vec.{vec-items};
 ghost use Rattle.tables.specs.Valid.{capacityAt};
-ghost use Rattle.tables.specs.Plan.{plan, kinds, routes, count, capacity, order, first, next, need};
+ghost use Rattle.tables.specs.Plan.{plan, routes, capacity, order, first, next, need};
 use crate::position::Position;
 use crate::resource::Resource;
 use crate::route::Route;

@@ -3,7 +3,6 @@ use mathlib.Core.Path.{_≡_}
 use mathlib.Core.List.{List, _++_}
 use Prim.Native.Nat.{ℕ, _+_, _≤_}
 use lib.ListN.{length, take, drop}
-use Rattle.std.specs.shelf.Lists.{All}
 use Rattle.tables.specs.Model.{Pos}
 
 -- from a place on, up to `end`, the space has the content, and elsewhere what it had

@@ -1,5 +1,4 @@
 // One part of a file put into a space.
-ghost use mathlib.Core.Path.{_≡_};
 ghost use Prim.Native.Nat.{_+_, _≤_};
 ghost use lib.ListN.{length};
 ghost use Rattle.writer.specs.Puts.{Puts};

@@ -1,7 +1,7 @@
 use mathlib.Core.Path.{sym}
 use native.Mathlib.Omega.{arith}
 use borrow.Author.Tests.{tests}
-use lib.ListN.{length, length-take, length-drop}
+use lib.ListN.{length-take, length-drop}
 use Rattle.std.proofs.shelf.Lists.{take-all}
 use Rattle.fields.specs.Bytes.{fieldSize}
 use Rattle.faults.proofs.offending.first_field.Needs as need

@@ -1,14 +1,14 @@
 use mathlib.Core.Path.{_≡_, refl, sym, ap, _∙_}
-use mathlib.Core.Bool.{true, false, cond, not, _||_}
+use mathlib.Core.Bool.{true, false, not, _||_}
 use mathlib.Core.List.{List}
 use Prim.Native.Nat.{ℕ, _+_, _-_, _%_, _≤_}
 use native.Mathlib.Omega.{arith}
 use borrow.Author.Tests.{ltb-false}
 use lib.Dec.{ltb}
-use lib.ListN.{length, take, drop, length-take, length-drop}
+use lib.ListN.{length, take, drop, length-drop}
 use Rattle.std.proofs.shelf.Lists.{take-rest}
-use Rattle.std.proofs.shelf.Tests.{le-ltb, lt-ltb, eq-eqb, or-from, or-left, or-right, not-from-true, not-from-false, cond-true, cond-false}
-use Rattle.fields.specs.Fields.{ragged, rises, nextCount, nextBytes, needBytes, position}
+use Rattle.std.proofs.shelf.Tests.{le-ltb, lt-ltb, eq-eqb, or-from, or-left, or-right, not-from-true, not-from-false}
+use Rattle.fields.specs.Fields.{ragged, rises, nextCount, needBytes}
 use Rattle.fields.proofs.parts.position_field.Needs as need
 use Rattle.fields.proofs.parts.position_field.Needs.{else-k-le-MOST-NEXTS·by·then-k-le-MOST-NEXTS·else-needs-rise, else-k-le-MOST-NEXTS·by·else-k-le-MOST-NEXTS}
 

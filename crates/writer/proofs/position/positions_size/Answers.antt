@@ -1,9 +1,9 @@
-use mathlib.Core.Path.{_≡_, ap, _∙_}
+use mathlib.Core.Path.{ap, _∙_}
 use native.Mathlib.Omega.{arith}
 use lib.ListN.{length, length-map}
 use Rattle.std.specs.Joined.{joined}
 use Rattle.std.proofs.shelf.Lists.{take-all}
-use Rattle.tables.specs.Model.{posOf, positionsOf}
+use Rattle.tables.specs.Model.{positionsOf}
 use Rattle.layout.specs.Layout.{positionField}
 use Rattle.writer.proofs.Places.{narrow-at, size-next}
 use Rattle.writer.proofs.position.positions_size.Needs as need
