@@ -4,7 +4,6 @@ use mathlib.Core.Bool.{Bool, true, false, cond}
 use mathlib.Core.List.{List, [], _∷_, _++_, map, append-assoc, append-nil}
 use Prim.Native.Nat.{ℕ, _+_, _/_, _%_, _≤_, _<_, max}
 use native.Mathlib.Omega.{arith}
-use lib.Chars.{codes}
 use lib.ListN.{length, take, getD}
 use Rattle.std.proofs.shelf.Lists.{take-more, take-all, joined-more, map-append}
 use Rattle.std.proofs.shelf.Results.{made-weaker}
@@ -15,12 +14,12 @@ use Rattle.std.specs.Of.String.{string-bytes, string-len}
 use Rattle.std.specs.Results.{isOk}
 use Rattle.std.specs.Rows.{separated}
 use Rattle.std.specs.Vec.{made}
-use Rattle.std.specs.Written.{glyph, decimal}
+use Rattle.std.specs.Written.{glyph}
 use Rattle.std.specs.declared.alloc.Global.{Global}
 use Rattle.std.specs.declared.result.Result.{Result}
 use Rattle.std.specs.declared.result.Result.the-variants.{Ok, Err}
 use Rattle.std.specs.declared.string.String.{String}
-use Rattle.inspect.specs.Texts.{plain, shown, quotation, longest, listing, needed}
+use Rattle.inspect.specs.Texts.{plain, shown, quotation, longest, listing, told}
 
 pub made-if : {X Y : Type 0} (r : Result X Y) (P : Type 0) → (isOk r ≡ true → P) → made r (λ _. P)
 made-if (Ok x) P f = f refl
@@ -83,17 +82,17 @@ longest-more texts text i n more len h at e long bigger = let one = folded-more 
 pub longest-all : (texts : List (String Global)) (i n : ℕ) → length texts ≤ i → n ≡ longest (take i texts) → n ≡ longest texts
 longest-all texts i n h e = e ∙ ap longest (take-all i texts h)
 
--- needs, one text each but for those of nothing
-needed-some : (name : String Global) (amount : ℕ) (rest : List (String Global × ℕ)) → 0 < amount → needed ((name, amount) ∷ rest) ≡ (string-bytes name ++ (32 ∷ decimal amount)) ∷ needed rest
-needed-some name amount rest h =
-    ap (λ (b : Bool). cond b (needed rest) ((string-bytes name ++ (32 ∷ decimal amount)) ∷ needed rest)) (ne-eqb amount 0 (λ e. omega arith))
+-- one text for each name, but for those of nothing
+module _ {X : Type 0} (amount : X → ℕ) (text : String Global → X → List ℕ) where
+  told-some : (name : String Global) (x : X) (rest : List (String Global × X)) → 0 < amount x → told amount text ((name, x) ∷ rest) ≡ text name x ∷ told amount text rest
+  told-some name x rest h = ap (λ (b : Bool). cond b (told amount text rest) (text name x ∷ told amount text rest)) (ne-eqb (amount x) 0 (λ e. omega arith))
 
-pub needs-more : (texts more : List (String Global)) (x name : String Global) (amount : ℕ) (pairs rest : List (String Global × ℕ)) (all : List (List ℕ)) → map string-bytes texts ++ needed pairs ≡ all → pairs ≡ (name, amount) ∷ rest → 0 < amount → string-bytes x ≡ string-bytes name ++ (codes " " ++ decimal amount) → more ≡ texts ++ (x ∷ []) → map string-bytes more ++ needed rest ≡ all
-needs-more texts more x name amount pairs rest all e front h said pushed =
-    let one = needed-some name amount rest h in
-    let old = map-append string-bytes texts (x ∷ []) in
-    let new = append-assoc (map string-bytes texts) (string-bytes x ∷ []) (needed rest) in
-    cc
+  pub told-more : (texts more : List (String Global)) (new name : String Global) (x : X) (pairs rest : List (String Global × X)) (all : List (List ℕ)) → map string-bytes texts ++ told amount text pairs ≡ all → pairs ≡ (name, x) ∷ rest → 0 < amount x → string-bytes new ≡ text name x → more ≡ texts ++ (new ∷ []) → map string-bytes more ++ told amount text rest ≡ all
+  told-more texts more new name x pairs rest all e front h said pushed =
+      let one = told-some name x rest h in
+      let old = map-append string-bytes texts (new ∷ []) in
+      let new = append-assoc (map string-bytes texts) (string-bytes new ∷ []) (told amount text rest) in
+      cc
 
-pub needs-all : (texts : List (String Global)) (pairs : List (String Global × ℕ)) (all : List (List ℕ)) → map string-bytes texts ++ needed pairs ≡ all → pairs ≡ [] → map string-bytes texts ≡ all
-needs-all texts pairs all e end = let whole = append-nil (map string-bytes texts) in cc
+  pub told-all : (texts : List (String Global)) (pairs : List (String Global × X)) (all : List (List ℕ)) → map string-bytes texts ++ told amount text pairs ≡ all → pairs ≡ [] → map string-bytes texts ≡ all
+  told-all texts pairs all e end = let whole = append-nil (map string-bytes texts) in cc

@@ -4,7 +4,7 @@ mod sheet;
 mod texts;
 mod trip;
 
-use files::pair;
+use opening::open;
 use std::fs;
 use std::io;
 use tables::reserve::Reserve;
@@ -22,10 +22,10 @@ fn main(rt: LibcRuntime) -> io::Result<()> {
     let heap = rt.alloc();
     let venue = bytes_of(&rt, "venue.bin")?;
     let show = bytes_of(&rt, "show.bin")?;
-    match pair::read(Reserve::take(heap)?, venue.as_slice(), show.as_slice()) {
-        Ok(tables) => {
-            sheet::print(&rt, &tables)?;
-            trip::print(&rt, &tables, venue.as_slice(), show.as_slice())
+    match open(Reserve::take(heap)?, venue.as_slice(), show.as_slice()) {
+        Ok(stage) => {
+            sheet::print(&rt, &stage)?;
+            trip::print(&rt, &stage.tables, venue.as_slice(), show.as_slice())
         }
         Err(fault) => rt.println(refusal_text(heap, fault)?),
     }

@@ -9,9 +9,10 @@ ghost use Rattle.std.specs.Vec.{made};
 ghost use Rattle.std.specs.Written.{glyph};
 ghost use Rattle.refusals.specs.Refusals.{numberOf};
 ghost use Rattle.faults.specs.Faults.{refusalOf, spotOf, fileNumber};
-ghost use Rattle.inspect.specs.Texts.{plain, shown, quotation, listing, nextText, needsText, refusalText};
+ghost use Rattle.inspect.specs.Texts.{plain, shown, quotation, listing, nextText, needsText, claimsText, refusalText};
 use faults::fault::file_number;
 use faults::layers::FitFault;
+use figures::claim::Claim;
 use std::alloc::AllocError;
 use std::alloc::Global;
 
@@ -85,6 +86,20 @@ pub fn needs_text(heap: Global, names: &[String], amounts: &[u16]) -> Result<Str
         }
     }
     listed(heap, needs.as_slice(), ", ", "nothing")
+}
+
+pub fn claims_text(heap: Global, names: &[String], claims: &[Claim]) -> Result<String, AllocError>
+    ensures { λ r. ⌜ made r (λ s. string-bytes s ≡ claimsText (zipped (now (names .entry)) (now (claims .entry)))) ⌝ }
+{
+    let mut texts = Vec::new(heap);
+    for (name, claim) in names.iter().zip(claims.iter()) {
+        let amount = claim.amount;
+        let position = claim.position;
+        if amount > 0 {
+            texts.push(format!(heap, "{name} {amount} set by {position}")?)?;
+        }
+    }
+    listed(heap, texts.as_slice(), ", ", "nothing")
 }
 
 fn numbers_text(

@@ -1,0 +1,9 @@
+pub mod Sounds
+pub mod Ways
+pub mod Lowest
+pub mod Lengths
+pub mod Claimed
+pub mod Bounds
+pub mod Copies
+pub mod Lawful
+pub mod Past
