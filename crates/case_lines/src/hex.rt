@@ -22,7 +22,7 @@ fn byte(high: u8, low: u8) -> Option<u8>
 }
 
 // The bytes that a text stands for, or none where it is no such text.
-pub(crate) fn decoded(heap: Global, text: &[u8]) -> Result<Option<Vec<u8>>, AllocError>
+pub fn decoded(heap: Global, text: &[u8]) -> Result<Option<Vec<u8>>, AllocError>
     ensures { IfOk result (λ o. Reads hex text.now (option_map vec_items o)) }
 {
     let mut bytes = Vec::new(heap);

@@ -1,4 +1,6 @@
 // A case's line: the files that it has, and what is said of them.
+#![tactic(auto)]
+
 pub mod case;
 mod hex;
 pub mod verdict;

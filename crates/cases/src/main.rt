@@ -1,5 +1,7 @@
 // Reads a case from each line of standard input, a label and a pair of files, and says of each whether the pair is
 // accepted, or what is wrong with it.
+#![tactic(auto)]
+
 use case_lines::case::files_of;
 use case_lines::verdict::{Accepted, Refused};
 use case_lines::written::length_of;

@@ -1,8 +1,9 @@
 -- The lowest order of a position, its claim on a resource with the position that sets it, and its peak need.
-use Rattle.std.specs.Prelude.{◌≡◌, ℕ, zero, suc, ◌<◌, ◌≤◌, min, max, Bool, cond, List, [], ◌∷◌, length, ◌==◌, nat_lt, slice_index, slice_index_or}
+use Rattle.std.specs.Prelude.{◌≡◌, ℕ, zero, suc, ◌<◌, ◌≤◌, min, max, Bool, cond, List, [], ◌∷◌, length, ◌==◌, nat_lt, slice_index, slice_index_or, get_or}
 use Rattle.tables.specs.Plan.{Plan, kinds, count, order, need}
 use Rattle.figures.specs.declared.claim.Claim.{Claim}
-use Rattle.figures.specs.declared.claim.ResourceFigures.{ResourceFigures}
+use Rattle.figures.specs.declared.claim.ClaimRow.{ClaimRow}
+use Rattle.figures.specs.declared.claim.PeakRow.{PeakRow}
 use Rattle.figures.specs.Way.{along, after, figure}
 
 -- the least order among the first n resources that p needs, 256 if it needs none
@@ -61,31 +62,28 @@ claim_of t r p = made (claim t r p) (setter t r p)
 abbrev pub peak : Plan → ℕ → ℕ → ℕ
 peak t r p = figure t (λ q. need t q r) (λ q next. max (need t q r) next) p
 
--- the row of a resource, among rows of one a resource
-abbrev pub row_of : List ResourceFigures → ℕ → ResourceFigures
-row_of rows r = slice_index_or rows r (record { claims = []; peaks = [] })
+-- what rows of claims, one a resource, have for r and p
+abbrev pub claim_in : List ClaimRow → ℕ → ℕ → Claim
+claim_in rows r p = slice_index_or (get_or rows r (record { items = [] })).items p (made 0 0)
 
--- what the rows have for r and p
-abbrev pub claim_in : List ResourceFigures → ℕ → ℕ → Claim
-claim_in rows r p = slice_index_or (row_of rows r).claims p (made 0 0)
+-- the first n rows have the claims of each position, with the positions that set them
+abbrev pub RowsHeld : Plan → ℕ → List ClaimRow → Type 0
+RowsHeld t n rows = (r p : ℕ) → r < n → p < count t → claim_in rows r p ≡ claim_of t r p
 
-abbrev pub peak_in : List ResourceFigures → ℕ → ℕ → ℕ
-peak_in rows r p = slice_index (row_of rows r).peaks p
-
--- a row has the figures of each position on r
-pub record RowHeld (t : Plan) (r : ℕ) (row : ResourceFigures) : Type 0 where
-  pub claims : (p : ℕ) → p < count t → slice_index_or row.claims p (made 0 0) ≡ claim_of t r p
-  pub peaks : (p : ℕ) → p < count t → slice_index row.peaks p ≡ peak t r p
-
-abbrev pub RowsHeld : Plan → ℕ → List ResourceFigures → Type 0
-RowsHeld t n rows = (r : ℕ) → r < n → RowHeld t r (row_of rows r)
-
--- the same, figure by figure: the rows have the claims of each position, the positions that set them, and the peak needs
-abbrev pub AmountsHeld : Plan → List ResourceFigures → Type 0
+-- the rows have the claims of each position, and the positions that set them
+abbrev pub AmountsHeld : Plan → List ClaimRow → Type 0
 AmountsHeld t rows = (r p : ℕ) → (r < kinds t) × (p < count t) → (claim_in rows r p).amount ≡ claim t r p
 
-abbrev pub SettersHeld : Plan → List ResourceFigures → Type 0
+abbrev pub SettersHeld : Plan → List ClaimRow → Type 0
 SettersHeld t rows = (r p : ℕ) → (r < kinds t) × (p < count t) → (claim_in rows r p).position ≡ setter t r p
 
-abbrev pub PeaksHeld : Plan → List ResourceFigures → Type 0
+-- what rows of peak needs, one a resource, have for r and p
+abbrev pub peak_in : List PeakRow → ℕ → ℕ → ℕ
+peak_in rows r p = slice_index (slice_index_or rows r (record { items = [] })).items p
+
+-- the first n rows have the peak needs of each position
+abbrev pub PeaksIn : Plan → ℕ → List PeakRow → Type 0
+PeaksIn t n rows = (r p : ℕ) → r < n → p < count t → peak_in rows r p ≡ peak t r p
+
+abbrev pub PeaksHeld : Plan → List PeakRow → Type 0
 PeaksHeld t rows = (r p : ℕ) → (r < kinds t) × (p < count t) → peak_in rows r p ≡ peak t r p

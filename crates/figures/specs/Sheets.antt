@@ -15,6 +15,7 @@ Sheet {V} t f before (Err e) after = (length before < count t) × (e ≡ RowTooS
 abbrev pub ClaimSheet : Plan → ℕ → List Claim → Result (Unit {0}) Refusal → List Claim → Type 0
 ClaimSheet t r before answer after = ((kinds t ≤ r) × (answer ≡ Err NoSuchResource) × (after ≡ before)) ⊎ ((r < kinds t) × Sheet t (claim_of t r) before answer after)
 
--- the first n of xs at the front of a row that is long enough
-abbrev pub Copied : {V : Type 0} → List V → ℕ → List V → List V → Type 0
-Copied xs n before after = (n ≤ length before) × (after ≡ take n xs ++ drop n before)
+-- the first n of xs at the front of a row, or the row too short and as it was
+abbrev pub Copied : {V : Type 0} → List V → ℕ → List V → Result (Unit {0}) Refusal → List V → Type 0
+Copied xs n before (Ok _) after = (n ≤ length before) × (after ≡ take n xs ++ drop n before)
+Copied xs n before (Err e) after = (length before < n) × (e ≡ RowTooShort) × (after ≡ before)

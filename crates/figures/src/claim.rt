@@ -5,9 +5,14 @@ pub struct Claim {
     pub position: u16,
 }
 
-// The figures on one resource, by position: claims, and peak needs along the way home.
+// The claims on one resource, by position.
 #[derive(Clone, Copy)]
-pub struct ResourceFigures {
-    pub claims: [Claim; 128],
-    pub peaks: [u16; 128],
+pub struct ClaimRow {
+    pub items: [Claim; 128],
+}
+
+// The peak needs of one resource along the ways home, by position.
+#[derive(Clone, Copy)]
+pub struct PeakRow {
+    pub items: [u16; 128],
 }

@@ -31,10 +31,10 @@ pub trait Figure {
 }
 
 // Works back from the last position, and leaves the row's entries past it.
-pub(crate) fn fill<F: Figure>(kind: &F, tables: &Tables, row: &mut [F::Value])
-    requires suits { suits kind.now (plan tables.now) }
+pub fn fill<F: Figure>(kind: &F, tables: &Tables, row: &mut [F::Value])
+    requires suits { F.suits kind.now (plan tables.now) }
     requires long { count (plan tables.now) ≤ length row.old }
-    ensures { Filled (plan tables.now) (ending kind.now (plan tables.now)) (leading kind.now (plan tables.now)) row.old row.new }
+    ensures { Filled (plan tables.now) (F.ending kind.now (plan tables.now)) (F.leading kind.now (plan tables.now)) row.old row.new }
 {
     for p in (0..position_count(tables)).rev() {
         row[p] = match main_next(tables, p) {

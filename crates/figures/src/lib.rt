@@ -1,7 +1,9 @@
 // Figures of the way home.
+#![tactic(auto)]
+
 pub mod claim;
-mod figure;
-mod kinds;
+pub mod figure;
+pub mod kinds;
 pub mod lookups;
 pub mod reads;
 pub mod sheets;

@@ -45,10 +45,9 @@ impl Stage {
     {
         let at = usize::from(p);
         if resource < resource_count(&self.tables) && at < position_count(&self.tables) {
-            let row = &self.rows[resource];
             return FiguresOn {
-                claim: row.claims[at],
-                peak: row.peaks[at],
+                claim: self.claims[resource].items[at],
+                peak: self.peaks[resource].items[at],
             };
         }
         FiguresOn {

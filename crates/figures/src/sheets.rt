@@ -1,5 +1,5 @@
 // The sheets: a figure of each position, put into a given row.
-ghost use Rattle.std.specs.Prelude.{◌≡◌, ◌≤◌, ◌++◌, length};
+ghost use Rattle.std.specs.Prelude.{◌≤◌, length};
 ghost use Rattle.tables.specs.Plan.{plan};
 ghost use Rattle.figures.specs.Way.{way_length};
 ghost use Rattle.figures.specs.Sheets.{Sheet, ClaimSheet, Copied};
@@ -10,12 +10,15 @@ use crate::stage::Stage;
 use refusals::Refusal;
 
 // Copies the first `count` figures to the front of the row.
-fn copy<T: Copy>(figures: &[T], count: usize, row: &mut [T])
-    requires known { count ≤ length figures.now }
-    requires long { count ≤ length row.old }
-    ensures { Copied figures.now count row.old row.new }
+fn copy<T: Copy>(figures: &[T], count: usize, row: &mut [T]) -> Result<(), Refusal>
+    requires { count ≤ length figures.now }
+    ensures { Copied figures.now count row.old result row.new }
 {
+    if row.len() < count {
+        return Err(Refusal::RowTooShort);
+    }
     row[0..count].copy_from_slice(&figures[0..count]);
+    Ok(())
 }
 
 impl Stage {
@@ -23,12 +26,7 @@ impl Stage {
     pub fn length_sheet(&self, row: &mut [u16]) -> Result<(), Refusal>
         ensures { Sheet (plan self.now.tables) (way_length (plan self.now.tables)) row.old result row.new }
     {
-        let count = position_count(&self.tables);
-        if row.len() < count {
-            return Err(Refusal::RowTooShort);
-        }
-        copy(&self.lengths, count, row);
-        Ok(())
+        copy(&self.lengths, position_count(&self.tables), row)
     }
 
     // Writes each position's claim on a resource with the position that sets it, and leaves the entries past the last position.
@@ -38,11 +36,10 @@ impl Stage {
         if resource >= resource_count(&self.tables) {
             return Err(Refusal::NoSuchResource);
         }
-        let positions = position_count(&self.tables);
-        if row.len() < positions {
-            return Err(Refusal::RowTooShort);
-        }
-        copy(&self.rows[resource].claims, positions, row);
-        Ok(())
+        copy(
+            &self.claims[resource].items,
+            position_count(&self.tables),
+            row,
+        )
     }
 }

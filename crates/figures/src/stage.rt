@@ -1,11 +1,11 @@
 // A pair of files with its figures, worked out once.
-ghost use Rattle.std.specs.Prelude.{◌≡◌};
+ghost use Rattle.std.specs.Prelude.{◌≡◌, ◌≤◌, length};
 ghost use Rattle.tables.specs.Plan.{plan, kinds};
 ghost use Rattle.figures.specs.Way.{LengthsHeld};
-ghost use Rattle.figures.specs.Claims.{LowestHeld, RowHeld, RowsHeld, AmountsHeld, SettersHeld, PeaksHeld};
+ghost use Rattle.figures.specs.Claims.{LowestHeld, LowestOrders, RowsHeld, AmountsHeld, SettersHeld, PeaksIn, PeaksHeld};
 ghost use Rattle.figures.specs.Laws.{Laws};
 
-use crate::claim::{Claim, ResourceFigures};
+use crate::claim::{Claim, ClaimRow, PeakRow};
 use crate::figure::fill;
 use crate::kinds::{Claims, Lengths, Lowest, Peaks};
 use crate::reads::resource_count;
@@ -16,12 +16,13 @@ pub struct Stage {
     pub tables: Tables,
     pub lengths: [u16; 128],
     pub lowest: [u16; 128],
-    pub rows: [ResourceFigures; 16],
+    pub claims: [ClaimRow; 16],
+    pub peaks: [PeakRow; 16],
     ghost lengths_held: { LengthsHeld (plan tables) lengths },
     ghost lowest_held: { LowestHeld (plan tables) lowest },
-    ghost amounts_held: { AmountsHeld (plan tables) rows },
-    ghost setters_held: { SettersHeld (plan tables) rows },
-    ghost peaks_held: { PeaksHeld (plan tables) rows },
+    ghost amounts_held: { AmountsHeld (plan tables) claims },
+    ghost setters_held: { SettersHeld (plan tables) claims },
+    ghost peaks_held: { PeaksHeld (plan tables) peaks },
 }
 
 // The length of each position's way home.
@@ -42,31 +43,32 @@ fn lowest_of(tables: &Tables) -> [u16; 128]
     row
 }
 
-// The figures on one resource, over the lowest orders.
-fn row_of(tables: &Tables, lowest: &[u16; 128], resource: usize) -> ResourceFigures
-    requires { LowestHeld (plan tables.now) lowest.now }
-    ensures { RowHeld (plan tables.now) resource result }
+// Works out the claims on each resource.
+fn fill_claims(tables: &Tables, lowest: &[u16], rows: &mut [ClaimRow])
+    requires lowest { LowestOrders (plan tables.now) lowest.now }
+    requires long { kinds (plan tables.now) ≤ length rows.old }
+    ensures { RowsHeld (plan tables.now) (kinds (plan tables.now)) rows.new }
 {
-    let mut claims = [Claim {
-        amount: 0,
-        position: 0,
-    }; 128];
-    fill(&Claims { resource, lowest }, tables, &mut claims);
-    let mut peaks = [0u16; 128];
-    fill(&Peaks { resource }, tables, &mut peaks);
-    ResourceFigures { claims, peaks }
+    for r in 0..resource_count(tables) {
+        fill(
+            &Claims {
+                resource: r,
+                lowest,
+            },
+            tables,
+            &mut rows[r].items,
+        );
+    }
 }
 
-// The figures on each resource.
-fn rows_of(tables: &Tables, lowest: &[u16; 128]) -> [ResourceFigures; 16]
-    requires { LowestHeld (plan tables.now) lowest.now }
-    ensures { RowsHeld (plan tables.now) (kinds (plan tables.now)) result }
+// Works out the peak needs of each resource.
+fn fill_peaks(tables: &Tables, rows: &mut [PeakRow])
+    requires { kinds (plan tables.now) ≤ length rows.old }
+    ensures { PeaksIn (plan tables.now) (kinds (plan tables.now)) rows.new }
 {
-    let mut rows = [row_of(tables, lowest, 0); 16];
-    for resource in 1..resource_count(tables) {
-        rows[resource] = row_of(tables, lowest, resource);
+    for resource in 0..resource_count(tables) {
+        fill(&Peaks { resource }, tables, &mut rows[resource].items);
     }
-    rows
 }
 
 impl Stage {
@@ -77,12 +79,21 @@ impl Stage {
     {
         let lengths = lengths_of(&tables);
         let lowest = lowest_of(&tables);
-        let rows = rows_of(&tables, &lowest);
+        let mut claims = [ClaimRow {
+            items: [Claim {
+                amount: 0,
+                position: 0,
+            }; 128],
+        }; 16];
+        fill_claims(&tables, &lowest, &mut claims);
+        let mut peaks = [PeakRow { items: [0; 128] }; 16];
+        fill_peaks(&tables, &mut peaks);
         Stage {
             tables,
             lengths,
             lowest,
-            rows,
+            claims,
+            peaks,
         }
     }
 }

@@ -4,7 +4,7 @@ use Rattle.std.proofs.lemmas.Bool.{eqb-true, ne_eqb}
 use Rattle.refusals.specs.declared.Refusal.{Refusal}
 use Rattle.refusals.specs.declared.Refusal.TheVariants as refusal
 use Rattle.fields.specs.Bytes.{tag, body, Point, past, spot_at}
-use Rattle.fields.specs.Fields.{Part, position, next_bytes, need_bytes, next_field}
+use Rattle.fields.specs.Fields.{Part, next_bytes, need_bytes, next_field}
 use Rattle.fields.specs.declared.spot.File.TheVariants.{Show}
 use Rattle.fields.specs.declared.spot.Spot.{Spot}
 use Rattle.fields.specs.declared.field.Turn.TheVariants.{FirstRoute, MoreRoutes, InRoute}

@@ -1,8 +1,9 @@
 -- What the readers of one position give: the procedure's own steps, which the laws of reading rest on.
 use Rattle.std.specs.Prelude.{◌≡◌, ℕ, cond, List, Ok, Err, Result}
 use Rattle.fields.specs.Bytes.{Point}
-use Rattle.fields.specs.Fields.{Part, header, resource, route, position, end}
+use Rattle.fields.specs.Fields.{Part, header, resource, route, position, end, part_of}
 use Rattle.fields.specs.declared.spot.Spot.{Spot}
+use Rattle.fields.specs.declared.field.Field.{Field}
 use Rattle.fields.specs.declared.faults.FieldFault.{FieldFault}
 use Rattle.fields.specs.declared.faults.FieldFault.TheVariants.{OutOfTurn}
 use Rattle.faults.specs.declared.layers.TableFault.{TableFault}
@@ -54,3 +55,11 @@ show_at rs ns ps o p = record { context = record { moment = inside; resources = 
 abbrev pub carried_as : {X : Type 0} → TableFault → Result X FieldFault → Type 0
 carried_as (Fields e) o = o ≡ Err e
 carried_as (WrongNext s) o = ⊥
+
+abbrev pub field_as : Result Field TableFault → Result Part FieldFault → Type 0
+field_as (Ok f) o = o ≡ Ok (part_of f)
+field_as (Err e) o = carried_as e o
+
+abbrev pub closed_as : Result (Unit {0}) TableFault → Result (Unit {0}) FieldFault → Type 0
+closed_as (Ok u) o = o ≡ Ok u
+closed_as (Err e) o = carried_as e o

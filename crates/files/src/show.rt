@@ -1,13 +1,13 @@
 // The show file: a header, one or more routes, each followed by its positions, and an end.
-ghost use Rattle.std.specs.Prelude.{◌≡◌, ℕ, ◌-◌, ◌≤◌, ◌||◌, List, length, IfOk, if◌then◌else◌, Ok, vec_len, vec_capacity, MatchResult, OnOk, nat_eq, nat_le, nat_lt};
+ghost use Rattle.std.specs.Prelude.{◌≡◌, ℕ, ◌-◌, ◌≤◌, ◌||◌, List, length, IfOk, if◌then◌else◌, vec_len, vec_capacity, MatchResult, OnOk, nat_eq, nat_le, nat_lt};
 ghost use Rattle.fields.specs.Bytes.{tag, past, spot_at};
-ghost use Rattle.fields.specs.Fields.{part_of, point_of, next_field, finished, closed, Shaped};
+ghost use Rattle.fields.specs.Fields.{point_of, next_field, finished, closed, Shaped};
 ghost use Rattle.fields.specs.declared.spot.File.TheVariants.{Show as InShow};
 ghost use Rattle.fields.specs.declared.field.Turn.TheVariants.{FirstRoute, MoreRoutes};
-ghost use Rattle.tables.specs.Model.{positions_of};
-ghost use Rattle.layout.specs.Reading.{Reaches, FirstBad, show_start};
+ghost use Rattle.tables.specs.Model.{counts_of, positions_of};
+ghost use Rattle.layout.specs.Reading.{Reaches, FirstBad, Ends, show_start};
 ghost use Rattle.files.specs.Pairs.{ShowIn};
-ghost use Rattle.files.specs.Steps.{carried_as, show_at};
+ghost use Rattle.files.specs.Steps.{field_as, closed_as, show_at};
 
 use crate::position::read_position;
 use faults::layers::{FitFault, TableFault};
@@ -45,7 +45,7 @@ fn read_positions(
 
 // The next field, as the tables' layer has it.
 fn table_field<'a>(reader: &mut FieldReader<'a>, turn: Turn) -> Result<Field<'a>, TableFault>
-    ensures found { MatchResult result (λ f. next_field turn (point_of reader.old) ≡ Ok (part_of f)) (λ e. carried_as e (next_field turn (point_of reader.old))) }
+    ensures found { field_as result (next_field turn (point_of reader.old)) }
     ensures moved { IfOk result (λ f. (point_of reader.new ≡ past (point_of reader.old)) × Shaped (tag (point_of reader.old).left) f) }
 {
     let field = reader.next(turn)?;
@@ -53,7 +53,7 @@ fn table_field<'a>(reader: &mut FieldReader<'a>, turn: Turn) -> Result<Field<'a>
 }
 
 fn table_close(reader: &FieldReader<'_>) -> Result<(), TableFault>
-    ensures { MatchResult result (λ u. closed (finished (spot_at (point_of reader.now)) (point_of reader.now).left) ≡ Ok u) (λ e. carried_as e (closed (finished (spot_at (point_of reader.now)) (point_of reader.now).left))) }
+    ensures { closed_as result (closed (finished (spot_at (point_of reader.now)) (point_of reader.now).left)) }
 {
     reader.close()?;
     Ok(())
@@ -114,14 +114,15 @@ fn read_routes(
 }
 
 // The show, in memory that was reserved for it.
-pub(crate) fn read_show(
+pub fn read_show(
     resources: &[Resource],
     mut routes: Vec<Route>,
     mut positions: Vec<Position>,
     bytes: &[u8],
 ) -> Result<Show, FitFault>
     requires { (length resources.now ≤ 16) × ((vec_len routes ≡ 0) × ((vec_len positions ≡ 0) × ((16 ≤ vec_capacity routes) × (128 ≤ vec_capacity positions)))) }
-    ensures { MatchResult result (λ s. ShowIn resources.now bytes.now s.routes.items s.positions.items) (λ e. FirstBad (show_start resources.now bytes.now) e) }
+    ensures ends { MatchResult result (λ s. Ends (show_start resources.now bytes.now) resources.now (counts_of s.routes.items) (positions_of s.positions.items)) (λ e. FirstBad (show_start resources.now bytes.now) e) }
+    ensures laid { IfOk result (λ s. ShowIn resources.now bytes.now s.routes.items s.positions.items) }
 {
     read_routes(resources, bytes, &mut routes, &mut positions)?;
     Ok(Show { routes, positions })

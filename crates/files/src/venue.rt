@@ -1,10 +1,10 @@
 // The venue file: a header, one or more resources, and an end.
-ghost use Rattle.std.specs.Prelude.{◌≡◌, ◌≤◌, true, length, if◌then◌else◌, vec_len, vec_capacity, MatchResult, nat_eq, nat_le};
+ghost use Rattle.std.specs.Prelude.{◌≡◌, ◌≤◌, true, [], length, IfOk, if◌then◌else◌, vec_len, vec_capacity, MatchResult, nat_eq, nat_le};
 ghost use Rattle.fields.specs.declared.field.Turn.TheVariants.{FirstResource, MoreResources};
 ghost use Rattle.faults.specs.declared.layers.FitFault.TheVariants.{Tables};
 ghost use Rattle.tables.specs.Valid.{valid_venue};
 ghost use Rattle.layout.specs.Layout.{venue_file};
-ghost use Rattle.layout.specs.Reading.{FirstBad, venue_start};
+ghost use Rattle.layout.specs.Reading.{FirstBad, Ends, venue_start};
 
 use faults::layers::TableFault;
 use fields::faults::FieldFault;
@@ -78,9 +78,10 @@ fn read_resources(bytes: &[u8], resources: &mut Vec<Resource>) -> Result<(), Tab
 }
 
 // The venue, in memory that was reserved for it.
-pub(crate) fn read_venue(mut resources: Vec<Resource>, bytes: &[u8]) -> Result<Venue, TableFault>
+pub fn read_venue(mut resources: Vec<Resource>, bytes: &[u8]) -> Result<Venue, TableFault>
     requires { (vec_len resources ≡ 0) × (16 ≤ vec_capacity resources) }
-    ensures { MatchResult result (λ v. bytes.now ≡ venue_file v.resources.items) (λ e. FirstBad (venue_start bytes.now) (Tables e)) }
+    ensures ends { MatchResult result (λ v. Ends (venue_start bytes.now) v.resources.items [] []) (λ e. FirstBad (venue_start bytes.now) (Tables e)) }
+    ensures laid { IfOk result (λ v. bytes.now ≡ venue_file v.resources.items) }
 {
     read_resources(bytes, &mut resources)?;
     Ok(Venue { resources })

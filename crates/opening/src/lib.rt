@@ -1,4 +1,6 @@
 // A stage from a venue file and a show file.
+#![tactic(auto)]
+
 ghost use Rattle.std.specs.Prelude.{IfOk, IfErr};
 ghost use Rattle.tables.specs.Contents.{Contents, contents};
 ghost use Rattle.tables.specs.Plan.{plan};

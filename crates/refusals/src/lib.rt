@@ -1,4 +1,6 @@
 // The numbers that the console says no with, and the text of each.
+#![tactic(auto)]
+
 ghost use Rattle.std.specs.Prelude.{◌≡◌};
 ghost use Rattle.refusals.specs.Refusals.{number_of, cause_of, Named};
 ghost use Rattle.refusals.specs.Texts.{refusal_of, Told};

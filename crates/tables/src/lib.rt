@@ -1,4 +1,6 @@
 // What accepted files hold: resources of a venue, routes and positions of a show. Each table is valid by its type.
+#![tactic(auto)]
+
 pub mod nexts;
 pub mod position;
 pub mod reads;

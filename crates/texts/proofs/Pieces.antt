@@ -1,9 +1,9 @@
 -- Texts that are put together piece by piece.
-use Rattle.std.proofs.Common.{◌≡◌, ℕ, ◌+◌, ◌/◌, ◌%◌, ◌<◌, ◌≤◌, max, Bool, true, false, cond, List, [], ◌∷◌, ◌++◌, map, length, get_or, take, is_ok, IfOk, Ok, Err, string_bytes, string_len, Result, String, sym, refl, ap, ◌∙◌, append_assoc, append-nil, arith}
+use Rattle.std.proofs.Common.{◌≡◌, ◌⊎◌, ℕ, ◌+◌, ◌/◌, ◌%◌, ◌<◌, ◌≤◌, max, Bool, true, false, cond, List, [], ◌∷◌, ◌++◌, map, length, get_or, take, is_ok, IfOk, Ok, Err, string_bytes, string_len, Result, String, sym, refl, ap, ◌∙◌, append_assoc, append-nil, arith}
 use Rattle.std.proofs.lemmas.List.{take_more, take_all, flat_map_more, map-append}
 use Rattle.std.proofs.lemmas.List.Sums.{fold_more}
 use Rattle.std.proofs.lemmas.Bool.{ne_eqb}
-use Rattle.std.specs.List.{flat_map, join_by}
+use Rattle.std.specs.List.{flat_map, join_by, zip}
 use Rattle.std.specs.Fmt.{digit_glyph}
 use Rattle.std.specs.declared.alloc.Global.{Global}
 use Rattle.texts.specs.Texts.{plain, shown, quotation, longest, listing, told}
@@ -79,3 +79,9 @@ module _ {X : Type 0} (amount : X → ℕ) (text : String Global → X → List 
 
   pub told-all : (texts : List (String Global)) (pairs : List (String Global × X)) (all : List (List ℕ)) → map string_bytes texts ++ told amount text pairs ≡ all → pairs ≡ [] → map string_bytes texts ≡ all
   told-all texts pairs all e end = let whole = append-nil (map string_bytes texts) in cc
+
+-- no pairs are left where either list is at its end
+pub no-pairs : {A B : Type 0} (xs : List A) (ys : List B) → (length xs ≡ 0) ⊎ (length ys ≡ 0) → zip xs ys ≡ []
+no-pairs [] ys h = refl
+no-pairs (x ∷ xs) [] h = refl
+no-pairs (x ∷ xs) (y ∷ ys) h = absurd (omega arith)

@@ -37,22 +37,24 @@ abbrev pub told : {X : Type 0} → (X → ℕ) → (String Global → X → List
 told amount text [] = []
 told amount text ((name, x) ∷ more) = cond (amount x == 0) (told amount text more) (text name x ∷ told amount text more)
 
--- a resource that is needed: its name and the amount
+-- a need: a resource's name and the amount
 abbrev pub need_text : String Global → ℕ → List ℕ
 need_text name n = string_bytes name ++ (codes " " ++ decimal n)
 
+-- a resource that is needed: its name and the amount
 abbrev pub needed : List (String Global × ℕ) → List (List ℕ)
-needed pairs = told (λ n. n) need_text pairs
+needed pairs = told (λ n. n) (λ name n. string_bytes name ++ (codes " " ++ decimal n)) pairs
 
 abbrev pub text_of_needs : List (String Global × ℕ) → List ℕ
 text_of_needs pairs = listing (codes "nothing") (codes ", ") (needed pairs)
 
--- a resource that is claimed: its name, the amount and the position that sets the claim
+-- a claim: a resource's name, the amount and the position that sets it
 abbrev pub claim_text : String Global → Claim → List ℕ
 claim_text name c = string_bytes name ++ (codes " " ++ (decimal c.amount ++ (codes " set by " ++ decimal c.position)))
 
+-- a resource that is claimed: its name, the amount and the position that sets the claim
 abbrev pub claimed : List (String Global × Claim) → List (List ℕ)
-claimed pairs = told (λ c. c.amount) claim_text pairs
+claimed pairs = told (λ c. c.amount) (λ name c. string_bytes name ++ (codes " " ++ (decimal c.amount ++ (codes " set by " ++ decimal c.position)))) pairs
 
 abbrev pub text_of_claims : List (String Global × Claim) → List ℕ
 text_of_claims pairs = listing (codes "nothing") (codes ", ") (claimed pairs)
@@ -63,8 +65,9 @@ pub record ClaimsOn (t : Plan) (p n : ℕ) (claims : List Claim) : Type 0 where
   pub each : (r : ℕ) (d : Claim) → r < n → slice_index_or claims r d ≡ claim_of t r p
 
 -- the claims of a position, by resource
-abbrev pub ClaimsAt : Plan → ℕ → List Claim → Type 0
-ClaimsAt t p claims = ClaimsOn t p (kinds t) claims
+pub record ClaimsAt (t : Plan) (p : ℕ) (claims : List Claim) : Type 0 where
+  pub all : length claims ≡ kinds t
+  pub each : (r : ℕ) (d : Claim) → r < kinds t → slice_index_or claims r d ≡ claim_of t r p
 
 -- the file, the number, the place and the byte
 abbrev pub text_of_refusal : ℕ → ℕ → ℕ → ℕ → List ℕ

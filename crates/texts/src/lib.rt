@@ -1,4 +1,6 @@
 // What a sheet says of a stage, as text.
+#![tactic(auto)]
+
 pub mod claims;
 pub mod columns;
 pub mod names;

@@ -35,7 +35,7 @@ fn push_shown(text: &mut String, byte: u8) -> Result<(), AllocError>
 }
 
 // A name between quotation marks: printable ASCII as it is, a backslash and any other byte as \xNN.
-fn quoted(heap: Global, name: &[u8]) -> Result<String, AllocError>
+pub fn quoted(heap: Global, name: &[u8]) -> Result<String, AllocError>
     ensures { IfOk result (λ s. string_bytes s ≡ quotation name.now) }
 {
     let mut text = String::from_str(heap, "\"")?;

@@ -3,30 +3,36 @@ use Rattle.std.proofs.Common.{◌≡◌, ℕ, ◌+◌, ◌<◌, ◌≤◌, List,
 use Rattle.std.specs.List.{flat_map}
 use Rattle.std.proofs.lemmas.List.{take_at, drop_at, drop-drop, take-append-drop, take_more}
 use Rattle.layout.proofs.Wrote.{joined-push}
-use Rattle.writer.specs.Puts.{Puts}
+use Rattle.writer.specs.Puts.{Puts, Front}
 
 puts_none : (at : ℕ) (s : List ℕ) → Puts [] at at s s
-puts_none at s = let none : at ≡ at + 0 = omega arith in record { ends = none; is = sym (take-append-drop at s) }
+puts_none at s =
+    let none : at + 0 ≡ at = omega arith in
+    record { ends = sym none; is = sym (ap (λ n. take at s ++ drop n s) none ∙ take-append-drop at s) }
 
 pub puts_then : {a b s t u : List ℕ} {at m n : ℕ} → at ≤ length s → Puts a at m s t → Puts b m n t u → Puts (a ++ b) at n s u
 puts_then {a} {b} {s} {t} {u} {at} {m} {n} le p q =
-    let rest = drop at s in
     let front : length (take at s ++ a) ≡ m = length-append (take at s) a ∙ ap (λ k. k + length a) (length-take at s ∙ omega arith) ∙ sym p.ends in
-    let told : t ≡ (take at s ++ a) ++ drop (length a) rest = p.is ∙ sym (append_assoc (take at s) a (drop (length a) rest)) in
+    let told : t ≡ (take at s ++ a) ++ drop (at + length a) s = p.is ∙ sym (append_assoc (take at s) a (drop (at + length a) s)) in
     let size = length-append a b in
     let mid = p.ends in
     let end = q.ends in
-    let took : take m t ≡ take at s ++ a = ap (take m) told ∙ take_at (take at s ++ a) (drop (length a) rest) m front in
-    let left : drop m t ≡ drop (length a) rest = ap (drop m) told ∙ drop_at (take at s ++ a) (drop (length a) rest) m front in
-    let gone : drop (length b) (drop m t) ≡ drop (length (a ++ b)) rest
-    = ap (drop (length b)) left ∙ drop-drop (length b) (length a) rest ∙ ap (λ k. drop k rest) (sym size) in
+    let took : take m t ≡ take at s ++ a = ap (take m) told ∙ take_at (take at s ++ a) (drop (at + length a) s) m front in
+    let left : drop m t ≡ drop (at + length a) s = ap (drop m) told ∙ drop_at (take at s ++ a) (drop (at + length a) s) m front in
+    let same : at + length a + length b ≡ at + length (a ++ b) = omega arith in
+    let gone : drop (m + length b) t ≡ drop (at + length (a ++ b)) s
+    = sym (drop-drop (length b) m t) ∙ ap (drop (length b)) left ∙ drop-drop (length b) (at + length a) s ∙ ap (λ k. drop k s) same in
     record {
       ends = omega arith;
       is = q.is
           ∙ (λ i. took i ++ (b ++ gone i))
-          ∙ append_assoc (take at s) a (b ++ drop (length (a ++ b)) rest)
-          ∙ ap (λ l. take at s ++ l) (sym (append_assoc a b (drop (length (a ++ b)) rest)));
+          ∙ append_assoc (take at s) a (b ++ drop (at + length (a ++ b)) s)
+          ∙ ap (λ l. take at s ++ l) (sym (append_assoc a b (drop (at + length (a ++ b)) s)));
     }
+
+-- at the front of a space
+pub puts-front : {content s t : List ℕ} {m : ℕ} → Puts content 0 m s t → Front content s t
+puts-front {content} {s} {t} {m} p = let none : 0 + length content ≡ length content = omega arith in p.is ∙ ap (λ k. content ++ drop k s) none
 
 pub puts-start : {at n : ℕ} {s : List ℕ} → n ≡ at → Puts [] at n s s
 puts-start {at} {n} {s} e = subst (λ k. Puts [] at k s s) (sym e) (puts_none at s)

@@ -5,7 +5,7 @@ use Rattle.tables.specs.Model.{Pos}
 -- from a place on, up to `end`, the space has the content, and elsewhere what it had
 pub record Puts (content : List ℕ) (at end : ℕ) (before after : List ℕ) : Type 0 where
   pub ends : end ≡ at + length content
-  pub is : after ≡ take at before ++ (content ++ drop (length content) (drop at before))
+  pub is : after ≡ take at before ++ (content ++ drop (at + length content) before)
 
 -- needs of 16 resources at most
 abbrev pub Narrow : Pos → Type 0

@@ -1,4 +1,6 @@
 // Writing venue and show files into a given space.
+#![tactic(auto)]
+
 mod position;
 mod put;
 mod resource;

@@ -2,7 +2,7 @@
 ghost use Rattle.std.specs.Prelude.{◌≡◌, ◌+◌, ◌*◌, ◌≤◌, length};
 ghost use Rattle.tables.specs.Model.{pos_of, positions_of};
 ghost use Rattle.layout.specs.Layout.{need_fields, position_field};
-ghost use Rattle.std.specs.List.{flat_map, AllByRecursion as All};
+ghost use Rattle.std.specs.List.{flat_map, AllByRecursion};
 ghost use Rattle.writer.specs.Puts.{Puts, Narrow};
 
 use crate::put::put;
@@ -71,8 +71,8 @@ fn put_position(space: &mut [u8], at: usize, x: &Position) -> usize
 }
 
 // How many bytes all these positions take.
-pub(crate) fn positions_size(positions: &[Position]) -> usize
-    requires { (length positions.now ≤ 128) × (All Narrow (positions_of positions.now)) }
+pub fn positions_size(positions: &[Position]) -> usize
+    requires { (length positions.now ≤ 128) × (AllByRecursion Narrow (positions_of positions.now)) }
     ensures size { result ≡ length (flat_map position_field (positions_of positions.now)) }
     ensures most { result ≤ 56 * length positions.now }
 {
@@ -83,8 +83,8 @@ pub(crate) fn positions_size(positions: &[Position]) -> usize
     total
 }
 
-pub(crate) fn put_positions(space: &mut [u8], at: usize, positions: &[Position]) -> usize
-    requires { (All Narrow (positions_of positions.now)) × (at + length (flat_map position_field (positions_of positions.now)) ≤ length space.old) }
+pub fn put_positions(space: &mut [u8], at: usize, positions: &[Position]) -> usize
+    requires { (AllByRecursion Narrow (positions_of positions.now)) × (at + length (flat_map position_field (positions_of positions.now)) ≤ length space.old) }
     ensures { Puts (flat_map position_field (positions_of positions.now)) at result space.old space.new }
 {
     let mut end = at;

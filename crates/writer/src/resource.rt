@@ -6,7 +6,7 @@ ghost use Rattle.writer.specs.Puts.{Puts};
 use crate::put::put;
 use tables::resource::Resource;
 
-pub(crate) fn put_resource(space: &mut [u8], at: usize, r: &Resource) -> usize
+pub fn put_resource(space: &mut [u8], at: usize, r: &Resource) -> usize
     requires { (length r.now.name ≡ 8) × (at + 14 ≤ length space.old) }
     ensures { Puts (resource_field r.now) at result space.old space.new }
 {

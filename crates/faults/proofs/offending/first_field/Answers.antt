@@ -3,8 +3,8 @@ use Rattle.std.proofs.lemmas.List.{take_all}
 use Rattle.fields.specs.Bytes.{field_size}
 use Rattle.faults.proofs.offending.first_field.Goals as goal
 
-pub returns-in-default : goal.returns-in-default
-returns-in-default c = let xs = c.args.left.now in sym (take_all (field_size xs) xs (omega (arith, tests)))
+pub returns-in_default : goal.returns-in_default
+returns-in_default c = let xs = c.args.left.now in sym (take_all (field_size xs) xs (omega (arith, tests)))
 
 pub returns-else-size-rest : goal.returns-else-size-rest
 returns-else-size-rest c =

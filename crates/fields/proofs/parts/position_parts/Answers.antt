@@ -9,8 +9,8 @@ returns-then-needs-eq0 c =
     let b = c.args.body.now in
     let rest = take_rest b 1 in
     let size = ap length rest ∙ length-drop 1 b in
-    let cut = c.in-ok-nexts.ensures.cases in
-    let same : length b - (1 + next_count b) ≡ length c.in-ok-nexts.needs.now = omega (arith, ltb-false) in (
+    let cut = c.in_ok-nexts.ensures.cases in
+    let same : length b - (1 + next_count b) ≡ length c.in_ok-nexts.needs.now = omega (arith, ltb-false) in (
       or_from _ _ (le-ltb _ _ (omega (arith, ltb-false))) (not_from_true _ (eq-eqb _ _ (ap (λ n. n % 3) same ∙ c.if-needs-eq0.true))),
       cut.1 ∙ ap (take (next_count b)) rest,
       cut.2 ∙ ap (drop (next_count b)) rest,

@@ -7,22 +7,22 @@ use Rattle.figures.proofs.figure.fill.Goals as goal
 use Rattle.figures.proofs.figure.fill.Goals.{in-Some, in-None}
 
 pub loop-p-init : goal.loop-p-init
-loop-p-init g c = filled_none _ _ _ _ _ c.position-count-p.ensures.is
+loop-p-init g c = filled_none _ _ _ _ _ c.position_count-p.ensures.is
 
 pub bounds-row-q : goal.bounds-row-q
 bounds-row-q g c =
     let t = c.args.tables.now in
-    let e : main (plan t) (c.loop-p.p - 1) ≡ Some c.in-Some.q = sym c.main-next.ensures ∙ c.in-Some.is in
+    let e : main (plan t) (c.loop-p.p - 1) ≡ Some c.in-Some.q = sym c.main_next.ensures ∙ c.in-Some.is in
     omega (arith, (main-ahead (plan t) (sound t) _ _ e).1)
 
-pub offset-bounds-row-q : goal.offset-bounds-row-q
-offset-bounds-row-q g c =
+pub offset_bounds-row-q : goal.offset_bounds-row-q
+offset_bounds-row-q g c =
     let h : c.in-Some.q < length c.loop-p.row = bounds-row-q g c in search rules
 
 pub before-requires : goal.before-requires
 before-requires g c =
     let t = c.args.tables.now in
-    let e : main (plan t) (c.loop-p.p - 1) ≡ Some c.in-Some.q = sym c.main-next.ensures ∙ c.in-Some.is in
+    let e : main (plan t) (c.loop-p.p - 1) ≡ Some c.in-Some.q = sym c.main_next.ensures ∙ c.in-Some.is in
     let to = main-ahead (plan t) (sound t) _ _ e in
     record {
       suits = c.requires.suits;
@@ -31,7 +31,7 @@ before-requires g c =
     }
 
 pub last-requires : goal.last-requires
-last-requires g c = record { suits = c.requires.suits; within = omega arith; last = sym c.main-next.ensures ∙ c.in-None.is }
+last-requires g c = record { suits = c.requires.suits; within = omega arith; last = sym c.main_next.ensures ∙ c.in-None.is }
 
 pub loop-p-preserved : goal.loop-p-preserved
 loop-p-preserved g c =
@@ -40,18 +40,18 @@ loop-p-preserved g c =
     let last = g.F.Figure.ending c.args.kind.now (plan t) in
     let before = g.F.Figure.leading c.args.kind.now (plan t) in
     let h : at < count (plan t) = omega arith in
-    let here : c.match-main-next.row ≡ figure (plan t) last before at =
-    elim c.match-main-next.branch [
+    let here : c.match-main_next.row ≡ figure (plan t) last before at =
+    elim c.match-main_next.branch [
       | in-Some w ↦
-          let e : main (plan t) at ≡ Some w.in-Some.q = sym c.main-next.ensures ∙ w.in-Some.is in
+          let e : main (plan t) at ≡ Some w.in-Some.q = sym c.main_next.ensures ∙ w.in-Some.is in
           let to = main-ahead (plan t) (sound t) _ _ e in
           let read = w.index-row-q.is ∙ c.loop-p.invariant.done _ _ (omega (arith, to.0)) to.1 in
           w.row-is ∙ w.before-in-Some.ensures ∙ ap (before at) read ∙ sym (figure-before (plan t) (sound t) last before at _ h e)
       | in-None w ↦
-          let e : main (plan t) at ≡ None = sym c.main-next.ensures ∙ w.in-None.is in
+          let e : main (plan t) at ≡ None = sym c.main_next.ensures ∙ w.in-None.is in
           w.row-is ∙ w.last.ensures ∙ sym (figure-last (plan t) (sound t) last before at h e)
     ] in
-    filled_more (plan t) last before c.args.row.now c.loop-p.p c.loop-p.row c.match-main-next.row (omega arith) (omega arith) (omega arith) here c.loop-p.invariant
+    filled_more (plan t) last before c.args.row.now c.loop-p.p c.loop-p.row c.match-main_next.row (omega arith) (omega arith) (omega arith) here c.loop-p.invariant
 
 pub returns : goal.returns
 returns g c = record { each = λ p d h. c.loop-p.invariant.done p d (omega arith) h; rest = c.loop-p.invariant.rest }

@@ -10,6 +10,6 @@ pub loop-left-preserved : goal.loop-left-preserved
 loop-left-preserved c =
     let rs = c.args.resources.now in
     let xs = c.loop-left.left.now in
-    let enough : ltb (capacity_at rs (get_or xs 0 0)) (word (get_or xs 1 0) (get_or xs 2 0)) ≡ false = le-ltb _ _ (omega (arith, c.capacity-of.ensures)) in
+    let enough : ltb (capacity_at rs (get_or xs 0 0)) (word (get_or xs 1 0) (get_or xs 2 0)) ≡ false = le-ltb _ _ (omega (arith, c.capacity_of.ensures)) in
     let e = at-three (exceeds rs) xs (omega (arith, ltb-false)) in
     sym (rw enough at e) ∙ c.loop-left.invariant

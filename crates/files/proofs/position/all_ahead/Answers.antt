@@ -9,12 +9,12 @@ first-ahead own end xs again some ahead named = let e = at_one (nexts_ok own end
 
 pub loop-left-preserved : goal.loop-left-preserved
 loop-left-preserved c =
-    sym (first-ahead c.args.own c.args.end c.loop-left.left.now false (omega (arith, ltb-false)) c.if-not-is-ahead.ensures c.if-is-named.ensures)
+    sym (first-ahead c.args.own c.args.end c.loop-left.left.now false (omega (arith, ltb-false)) c.if-not-is_ahead.ensures c.if-is_named.ensures)
     ∙ c.loop-left.invariant
 
-pub returns-then-is-named : goal.returns-then-is-named
-returns-then-is-named c =
-    sym (first-ahead c.args.own c.args.end c.loop-left.left.now true (omega (arith, ltb-false)) c.if-not-is-ahead.ensures c.if-is-named.ensures)
+pub returns-then-is_named : goal.returns-then-is_named
+returns-then-is_named c =
+    sym (first-ahead c.args.own c.args.end c.loop-left.left.now true (omega (arith, ltb-false)) c.if-not-is_ahead.ensures c.if-is_named.ensures)
     ∙ c.loop-left.invariant
 
 pub returns : goal.returns

@@ -3,16 +3,16 @@ use Rattle.std.proofs.lemmas.Result.{err_from_is_err_and}
 use Rattle.files.proofs.RouteTurns.{fault, again, through}
 use Rattle.files.proofs.show.read_positions.Goals as goal
 
-pub returns-in-err-position : goal.returns-in-err-position
-returns-in-err-position c =
-    let q = err_from_is_err_and c.from-residual.result c.from-residual.ensures.1 in
-    rw (q.1, q.2) (record { went = fault c.loop-own.invariant c.loop-own-test.true _ c.in-err-position.ensures.found; kept = tt })
+pub returns-in_err-position : goal.returns-in_err-position
+returns-in_err-position c =
+    let q = err_from_is_err_and c.from_residual.result c.from_residual.ensures.1 in
+    rw (q.1, q.2) (record { went = fault c.loop-own.invariant c.loop-own-test.true _ c.in_err-position.ensures.found; kept = tt })
 
 pub loop-own-preserved : goal.loop-own-preserved
 loop-own-preserved c =
-    let n = c.in-ok-position.ensures in
-    let pushed = c.push-reserved.ensures in
-    again c.loop-own.invariant c.loop-own-test.true _ _ c.push-reserved.new.self n.found n.moved pushed.len pushed.capacity pushed.items
+    let n = c.in_ok-position.ensures in
+    let pushed = c.push_reserved.ensures in
+    again c.loop-own.invariant c.loop-own-test.true _ _ c.push_reserved.new.self n.found n.moved pushed.len pushed.capacity pushed.items
 
 pub returns : goal.returns
 returns c =

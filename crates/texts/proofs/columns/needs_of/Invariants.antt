@@ -1,9 +1,11 @@
 use Rattle.std.proofs.Common.{◌≡◌, ◌++◌, map, vec_items, string_bytes}
-use Rattle.std.proofs.lemmas.Map.Pairs.{pairs-rest}
+use Rattle.std.specs.Slice.Iter.{iter_rest}
+use Rattle.std.specs.Iterator.Adapters.{zip_first, zip_second}
 use Rattle.std.specs.List.{zip}
 use Rattle.texts.specs.Texts.{needed}
 use Rattle.texts.proofs.columns.needs_of.Given as goal
 
 -- what there is so far, and what the rest of the pairs add
 abbrev pub invariant-loop-name : goal.invariant-loop-name
-invariant-loop-name l = map string_bytes (vec_items l.needs) ++ needed (pairs-rest l.name-iterator) ≡ needed (zip l.names l.amounts)
+invariant-loop-name l =
+    map string_bytes (vec_items l.needs) ++ needed (zip (iter_rest (zip_first l.name-iterator)) (iter_rest (zip_second l.name-iterator))) ≡ needed (zip l.names l.amounts)

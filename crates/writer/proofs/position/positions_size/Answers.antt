@@ -7,14 +7,14 @@ use Rattle.layout.specs.Layout.{position_field}
 use Rattle.writer.proofs.Places.{narrow_at, size-next}
 use Rattle.writer.proofs.position.positions_size.Goals as goal
 
-pub position-size-total-requires : goal.position-size-total-requires
-position-size-total-requires c = narrow_at c.args.positions.now c.loop-x.x-index _ c.loop-x-test.true c.x-item.is c.requires.1
+pub position_size-total-requires : goal.position_size-total-requires
+position_size-total-requires c = narrow_at c.args.positions.now c.loop-x.x-index _ c.loop-x-test.true c.x-item.is c.requires.1
 
 pub loop-x-preserved : goal.loop-x-preserved
 loop-x-preserved c =
     let inv = c.loop-x.invariant in
     let more = size-next c.args.positions.now c.loop-x.x-index _ c.loop-x-test.true c.x-item.is in
-    let this = c.position-size-total.ensures in
+    let this = c.position_size-total.ensures in
     (omega (arith, inv.0, more, this.size), omega (arith, inv.1, this.most))
 
 pub returns : goal.returns

@@ -11,8 +11,8 @@ use Rattle.writer.proofs.position.put_positions.Goals as goal
 pub loop-x-init : goal.loop-x-init
 loop-x-init c = puts-start refl
 
-pub put-position-end-requires : goal.put-position-end-requires
-put-position-end-requires c =
+pub put_position-end-requires : goal.put_position-end-requires
+put_position-end-requires c =
     let ps = c.args.positions.now in
     let i = c.loop-x.x-index in
     let fits = fits_next ps i _ c.loop-x-test.true c.x-item.is in
@@ -22,7 +22,7 @@ pub loop-x-preserved : goal.loop-x-preserved
 loop-x-preserved c =
     let room = c.requires.1 in
     puts-as (fields-next c.args.positions.now c.loop-x.x-index _ c.loop-x-test.true c.x-item.is)
-    (puts_then (omega arith) c.loop-x.invariant c.put-position-end.ensures)
+    (puts_then (omega arith) c.loop-x.invariant c.put_position-end.ensures)
 
 pub returns : goal.returns
 returns c =

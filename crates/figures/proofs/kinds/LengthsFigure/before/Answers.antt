@@ -5,9 +5,9 @@ use Rattle.figures.proofs.Ways.{main-ahead}
 use Rattle.figures.proofs.Lengths.{length-figure, length-few}
 use Rattle.figures.proofs.kinds.LengthsFigure.before.Goals as goal
 
-pub overflow-add-result : goal.overflow-add-result
-overflow-add-result c =
-    let tables = c.args.-tables.now in
+pub overflow_add-result : goal.overflow_add-result
+overflow_add-result c =
+    let tables = c.args._tables.now in
     let t = plan tables in
     let known = c.requires.known in
     let q = known.0 in
