@@ -1,4 +1,6 @@
 // The console: a stage, a rule, and where the pieces are.
+#![tactic(auto)]
+
 pub mod console;
 mod moves;
 pub mod promise;

@@ -6,7 +6,7 @@ use Rattle.std.proofs.lemmas.Bool.{cases_eq, cases_lt}
 use Rattle.tables.specs.Plan.{Plan}
 use Rattle.figures.specs.Placing.{distance}
 use Rattle.rules.specs.Placing.{on_count}
-use Rattle.history.specs.History.{History, placing, Right, Kept, Stands, Promised}
+use Rattle.history.specs.History.{History, Right, Kept, Stands, Promised}
 use Rattle.evening.specs.declared.step.Step.{Step}
 use Rattle.evening.specs.Run.{on_top, after, HomeAt, Run}
 

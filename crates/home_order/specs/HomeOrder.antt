@@ -1,6 +1,6 @@
 -- The home-order rule: the pieces can go home one after another.
 use Rattle.std.specs.Prelude.{ℕ, ◌<◌, List, [], ◌∷◌, Some, None, Option, slice_index_or, slice_set}
-use Rattle.std.specs.List.{AllByRecursion as All}
+use Rattle.std.specs.List.{AllByRecursion}
 use Rattle.tables.specs.Plan.{Plan}
 use Rattle.figures.specs.Way.{way}
 use Rattle.figures.specs.Placing.{off}
@@ -8,7 +8,7 @@ use Rattle.rules.specs.Placing.{On, Fits, Roomy}
 
 -- piece k goes its whole way home, the others standing still, and every placing on the way is fine
 abbrev pub GoesHome : (List ℕ → Type 0) → Plan → List ℕ → ℕ → Type 0
-GoesHome fine t w k = All (λ q. fine (slice_set w k q)) (way t (slice_index_or w k off))
+GoesHome fine t w k = AllByRecursion (λ q. fine (slice_set w k q)) (way t (slice_index_or w k off))
 
 -- the pieces on, in this order, go home one after another, the later ones standing still
 abbrev pub AllGoHome : (List ℕ → Type 0) → Plan → List ℕ → List ℕ → Type 0

@@ -1,7 +1,7 @@
 -- Orders in which pieces go home, where taking a piece off leaves a fine placing fine.
 use Rattle.std.specs.Prelude.{◌≡◌, ℕ, List, [], ◌∷◌, ◌≢◌, slice_index_or, slice_set}
 use Rattle.std.proofs.Common.{sym, subst, ◌∙◌, ⊎_elim}
-use Rattle.std.specs.List.{AllByRecursion as All}
+use Rattle.std.specs.List.{AllByRecursion}
 use Rattle.std.proofs.ByRecursion.{All-weaker}
 use Rattle.std.proofs.lemmas.List.{get_or-set_other, set_comm}
 use Rattle.std.proofs.lemmas.Bool.{cases_eq}
@@ -17,7 +17,7 @@ module _ (fine : List ℕ → Type 0) (t : Plan) (removal : (w : List ℕ) (k : 
   -- with one piece fewer, k can go all the more
   goes-removal : (w : List ℕ) (j k : ℕ) → (k ≢ j) → GoesHome fine t w k → GoesHome fine t (slice_set w j off) k
   goes-removal w j k other h =
-      subst (λ p. All (λ q. fine (slice_set (slice_set w j off) k q)) (way t p)) (sym (get_or-set_other w j k off off other))
+      subst (λ p. AllByRecursion (λ q. fine (slice_set (slice_set w j off) k q)) (way t p)) (sym (get_or-set_other w j k off off other))
       (All-weaker (λ q. fine (slice_set w k q)) (λ q. fine (slice_set (slice_set w j off) k q)) (λ q ok. subst fine (set_comm w k j q off other) (removal (slice_set w k q) j ok)) (way t (slice_index_or w k off)) h)
 
   order-removal : (w : List ℕ) (j : ℕ) (ks : List ℕ) → AllGoHome fine t w ks → HasOrder fine t (slice_set w j off)

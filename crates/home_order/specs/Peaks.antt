@@ -1,7 +1,7 @@
 -- The peak needs fit exactly if every placing on the way home does.
 use Rattle.std.specs.Prelude.{◌≡◌, ℕ, ◌+◌, ◌<◌, ◌≤◌, max, List, [], ◌∷◌, length, slice_index_or, slice_set}
 use Rattle.std.proofs.Common.{sym, subst, ◌∙◌, ⊎_elim, arith}
-use Rattle.std.specs.List.{AllByRecursion as All}
+use Rattle.std.specs.List.{AllByRecursion}
 use Rattle.std.proofs.ByRecursion.{All-weaker}
 use Rattle.std.proofs.lemmas.List.{set_past}
 use Rattle.std.proofs.lemmas.Bool.{cases_eq, cases_lt}
@@ -15,7 +15,7 @@ use Rattle.rules.specs.Placings.{on_below, if-on, if-off, total-set}
 use Rattle.home_order.specs.HomeOrder.{GoesHome}
 use Rattle.home_order.specs.Sums.{SumsOf, PeaksFit}
 
-all-swap : (P : ℕ → ℕ → Type 0) (n : ℕ) (qs : List ℕ) → ((r : ℕ) → r < n → All (P r) qs) → All (λ q. (r : ℕ) → r < n → P r q) qs
+all-swap : (P : ℕ → ℕ → Type 0) (n : ℕ) (qs : List ℕ) → ((r : ℕ) → r < n → AllByRecursion (P r) qs) → AllByRecursion (λ q. (r : ℕ) → r < n → P r q) qs
 all-swap P n [] h = tt
 all-swap P n (q ∷ qs) h = ((λ r lt. (h r lt).0), all-swap P n qs (λ r lt. (h r lt).1))
 
@@ -23,11 +23,11 @@ module _ (t : Plan) (r h c : ℕ) where
   abbrev peak_along : ℕ → List ℕ → ℕ
   peak_along p qs = along (λ q. need t q r) (λ q next. max (need t q r) next) p qs
 
-  peak-all : (p : ℕ) (qs : List ℕ) → h + peak_along p qs ≤ c → All (λ q. h + need t q r ≤ c) (p ∷ qs)
+  peak-all : (p : ℕ) (qs : List ℕ) → h + peak_along p qs ≤ c → AllByRecursion (λ q. h + need t q r ≤ c) (p ∷ qs)
   peak-all p [] le = (le, tt)
   peak-all p (q ∷ qs) le = (omega arith, peak-all q qs (omega arith))
 
-  all-peak : (p : ℕ) (qs : List ℕ) → All (λ q. h + need t q r ≤ c) (p ∷ qs) → h + peak_along p qs ≤ c
+  all-peak : (p : ℕ) (qs : List ℕ) → AllByRecursion (λ q. h + need t q r ≤ c) (p ∷ qs) → h + peak_along p qs ≤ c
   all-peak p [] all = all.0
   all-peak p (q ∷ qs) all = let rest = all-peak q qs all.1 in omega (arith, all.0)
 

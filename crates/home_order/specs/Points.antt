@@ -2,7 +2,7 @@
 use Rattle.std.specs.Prelude.{◌≡◌, ℕ, ◌<◌, ◌≤◌, List, [], ◌∷◌, length, get_or, set, Some, None, Option, MatchOption, ◌≢◌, slice_index_or, slice_set, refl}
 use Rattle.std.proofs.Common.{sym, ap, subst, ◌∙◌, ⊎_elim, arith}
 use Rattle.std.specs.Option.{unwrap_or}
-use Rattle.std.specs.List.{AllByRecursion as All}
+use Rattle.std.specs.List.{AllByRecursion}
 use Rattle.std.proofs.ByRecursion.{All-weaker, All-from_get_or}
 use Rattle.std.proofs.lemmas.List.{get_or-set_same, get_or-set_other, set-set}
 use Rattle.tables.specs.Plan.{Plan, count, capacity, need}
@@ -58,14 +58,14 @@ module _ (t : Plan) (sound : Sound t) where
       let lt = on_below w k first.1.0 in
       let ahead = main-ahead t sound p q e in
       let rest : after t p ≡ way t q = after-step t sound p (h.0.0.1 k first.1.0) ∙ ap (λ o. from o (after t)) e in
-      let goes : All (λ x. Fits t (slice_set w k x)) (way t q) = subst (All (λ x. Fits t (slice_set w k x))) rest first.1.1.1 in
+      let goes : AllByRecursion (λ x. Fits t (slice_set w k x)) (way t q) = subst (AllByRecursion (λ x. Fits t (slice_set w k x))) rest first.1.1.1 in
       let here : get_or (slice_set w k q) k off ≡ q = get_or-set_same w k q off lt in (
         (formed-set t w k q (omega (arith, h.0.0.0)) (λ _. ahead.1) h.0.0, goes.0),
         (
           k ∷ first.0,
           (
             (λ off'. omega (arith, here, off', sound.few, ahead.1)),
-            subst (λ x. All (λ y. Fits t (slice_set (slice_set w k q) k y)) (way t x)) (sym here) (All-weaker (λ y. Fits t (slice_set w k y)) (λ y. Fits t (slice_set (slice_set w k q) k y)) (λ y fit. subst (Fits t) (sym (set-set w k q y)) fit) (way t q) goes),
+            subst (λ x. AllByRecursion (λ y. Fits t (slice_set (slice_set w k q) k y)) (way t x)) (sym here) (All-weaker (λ y. Fits t (slice_set w k y)) (λ y. Fits t (slice_set (slice_set w k q) k y)) (λ y fit. subst (Fits t) (sym (set-set w k q y)) fit) (way t q) goes),
             subst (λ v. AllGoHome (Fits t) t v first.0) (sym (set-set w k q off)) first.1.2,
           ),
         ),

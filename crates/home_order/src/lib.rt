@@ -1,4 +1,6 @@
 // The home-order rule: a placing is allowed when its pieces can go home one after another.
+#![tactic(auto)]
+
 ghost use Rattle.home_order.specs.HomeOrder.{HomeOrder, HomeOrderNames};
 ghost use Rattle.home_order.specs.Points.{home-empty, home-alone, home-removal, home-goes};
 ghost use Rattle.std.proofs.Common.{rules};

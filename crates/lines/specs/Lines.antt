@@ -1,6 +1,6 @@
 -- The lines of a run: what a line of input says, and what a line of output shows.
 use Rattle.std.specs.Prelude.{◌≡◌, ℕ, ◌+◌, ◌-◌, ◌*◌, ◌≤◌, List, [], ◌∷◌, ◌++◌, length, codes, fold}
-use Rattle.std.specs.List.{AllByRecursion as All}
+use Rattle.std.specs.List.{AllByRecursion}
 use Rattle.history.specs.declared.calls.Call.{Call}
 use Rattle.history.specs.declared.calls.Call.TheVariants.{Start, Move, Leave, Clear}
 
@@ -13,7 +13,7 @@ value ds = fold (λ n d. n * 10 + (d - 48)) 0 ds
 
 -- n is written as these 1 to 5 digits
 pub record Number (ds : List ℕ) (n : ℕ) : Type 0 where
-  pub digits : All Digit ds
+  pub digits : AllByRecursion Digit ds
   pub some : 1 ≤ length ds
   pub few : length ds ≤ 5
   pub is : n ≡ value ds

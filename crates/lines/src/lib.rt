@@ -1,4 +1,6 @@
 // The lines of a run.
+#![tactic(auto)]
+
 pub mod buffer;
 mod numbers;
 pub mod parse;

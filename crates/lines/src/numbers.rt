@@ -1,12 +1,12 @@
 // The numbers of a line.
 ghost use Rattle.std.specs.Prelude.{◌≡◌, ℕ, ◌<◌, ◌≤◌, List, length, MatchOption, ◌≢◌, slice_index};
-ghost use Rattle.std.specs.List.{AllByRecursion as All};
+ghost use Rattle.std.specs.List.{AllByRecursion};
 ghost use Rattle.lines.specs.Lines.{Digit, value, Number, Numbers, space};
 
 // The value of at most 5 digits, if they are digits.
 fn value_of(digits: &[u8]) -> Option<u32>
     requires { length digits.now ≤ 5 }
-    ensures { MatchOption result (All Digit digits.now → ⊥) (λ n. All Digit digits.now × (n ≡ value digits.now)) }
+    ensures { MatchOption result (AllByRecursion Digit digits.now → ⊥) (λ n. AllByRecursion Digit digits.now × (n ≡ value digits.now)) }
 {
     let mut n: u32 = 0;
     for d in digits {
@@ -30,7 +30,7 @@ pub(crate) fn number(text: &[u8]) -> Option<u32>
 
 // Where the first space of a text is.
 fn first_space(text: &[u8]) -> Option<usize>
-    ensures { MatchOption result (All (λ x. x ≢ space) text.now) (λ i. (i < length text.now) × (slice_index text.now i ≡ space) × ((j : ℕ) → j < i → slice_index text.now j ≢ space)) }
+    ensures { MatchOption result (AllByRecursion (λ x. x ≢ space) text.now) (λ i. (i < length text.now) × (slice_index text.now i ≡ space) × ((j : ℕ) → j < i → slice_index text.now j ≢ space)) }
 {
     for i in 0..text.len() {
         if text[i] == b' ' {

@@ -1,14 +1,12 @@
 -- Along every history under the ordered rule, the marking is the count of the placing.
-use Rattle.std.proofs.Common.{◌≡◌, ℕ, ◌<◌, ◌⊎◌, List, [], ◌∷◌, length, get_or, set, Some, Option, sym, refl, ap, ◌∙◌, subst, inl, inr, ⊎_elim, arith}
+use Rattle.std.proofs.Common.{◌≡◌, ℕ, ◌<◌, List, [], ◌∷◌, get_or, set, Some, subst, arith}
 use Rattle.refusals.specs.declared.Refusal.{Refusal}
 use Rattle.std.specs.List.{ContainsAt as Has}
 use Rattle.tables.specs.Plan.{Plan, count, first, next}
 use Rattle.figures.specs.Sound.{Sound}
 use Rattle.figures.specs.Claims.{claim}
-use Rattle.figures.specs.Placing.{off, stepped, home_step}
+use Rattle.figures.specs.Placing.{off, stepped}
 use Rattle.figures.proofs.Bounds.{claim-le}
-use Rattle.rules.specs.Placing.{Fits}
-use Rattle.rules.specs.Rule.{Names}
 use Rattle.rules.specs.Ordered.{Ordered, OrderedNames}
 use Rattle.rules.specs.Placings.{on_below}
 use Rattle.rules.specs.Kept.{kept-empty, kept-alone, kept-removal}

@@ -1,8 +1,8 @@
 -- One piece moved: what its transition takes and gives, place by place.
-use Rattle.std.proofs.Common.{◌≡◌, ℕ, zero, suc, ◌+◌, ◌-◌, ◌<◌, ◌≤◌, List, [], ◌∷◌, length, get_or, set, replicate, sum_by, sym, refl, ◌∙◌, arith}
+use Rattle.std.proofs.Common.{◌≡◌, ℕ, zero, suc, ◌+◌, ◌-◌, ◌<◌, ◌≤◌, List, length, get_or, set, replicate, sum_by, sym, refl, ◌∙◌, arith}
 use Rattle.std.proofs.lemmas.List.Sums.{sum_by-cons, sum_by-set, get_or-le-sum_by}
 use Rattle.std.proofs.lemmas.Bool.{ne_eqb}
-use Rattle.tables.specs.Plan.{Plan, kinds, count, capacity, need}
+use Rattle.tables.specs.Plan.{Plan, count, capacity, need}
 use Rattle.figures.specs.Sound.{Sound}
 use Rattle.figures.specs.Claims.{claim}
 use Rattle.figures.specs.Placing.{off, if_on}
@@ -10,7 +10,7 @@ use Rattle.rules.specs.Placing.{total, held, nobody}
 use Rattle.rules.specs.Ordered.{Ordered}
 use Rattle.rules.specs.Placings.{total-nobody, total-set, formed-set}
 use Rattle.rules.specs.Orders.{ordered-fits}
-use Rattle.net.specs.Net.{Place, Position, Idle, Resource, Control, IsPlace, Marking, initial, one, takes, gives, Enabled, fire, counts}
+use Rattle.net.specs.Net.{Place, Position, Idle, Resource, Control, IsPlace, Marking, initial, one, Enabled, fire, counts}
 
 -- what is free of c, with b in the place of a
 free : (c total after a b : ℕ) → after + a ≡ total + b → total ≤ c → after ≤ c → c - after ≡ (c - total - (b - a)) + (a - b)

@@ -1,4 +1,6 @@
 // Calls under the ordered rule, which grants exactly what the controlled net enables.
+#![tactic(auto)]
+
 ghost use Rattle.std.specs.Prelude.{◌≡◌};
 ghost use Rattle.tables.specs.Plan.{plan};
 ghost use Rattle.net.specs.Net.{OrderedCall};

@@ -2,7 +2,7 @@
 use Rattle.std.specs.Prelude.{◌≡◌, ℕ, ◌+◌, ◌<◌, ◌≤◌, List, [], ◌∷◌, length, get_or, Some, None, Option, ◌≢◌, slice_index_or, refl}
 use Rattle.std.proofs.Common.{sym, ap, subst, ◌∙◌, ⊎_elim, arith}
 use Rattle.std.specs.Option.{unwrap_or}
-use Rattle.std.specs.List.{AllByRecursion as All}
+use Rattle.std.specs.List.{AllByRecursion}
 use Rattle.std.proofs.ByRecursion.{All-from_get_or, sum_by_le}
 use Rattle.std.proofs.lemmas.Bool.{cases_eq, cases_lt, lt-ltb}
 use Rattle.tables.specs.Plan.{Plan, kinds, count, capacity, order, need}
@@ -48,7 +48,7 @@ module _ (t : Plan) (sound : Sound t) where
   -- no piece claims anything of a resource below the lowest order
   none-claimed : (w : List ℕ) (k r : ℕ) → Lowest t w k → order t r < lowest_order t w k → total (claim t r) w ≡ 0
   none-claimed w k r low h =
-      let each : All (λ p. if_on (claim t r) p ≤ 0) w = All-from_get_or (λ p. if_on (claim t r) p ≤ 0) w off (λ j _. ⊎_elim
+      let each : AllByRecursion (λ p. if_on (claim t r) p ≤ 0) w = All-from_get_or (λ p. if_on (claim t r) p ≤ 0) w off (λ j _. ⊎_elim
       (λ e. omega (arith, if-off (claim t r) (slice_index_or w j off) e))
       (λ on. omega (arith, if-on (claim t r) (slice_index_or w j off) on, claim-none t r (slice_index_or w j off) (omega (arith, low.least j on))))
       (cases_eq (slice_index_or w j off) off)) in

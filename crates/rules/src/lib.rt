@@ -1,4 +1,6 @@
 // The rules that admit a step.
+#![tactic(auto)]
+
 mod amounts;
 pub mod either;
 pub mod holdings;

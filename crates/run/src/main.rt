@@ -1,5 +1,7 @@
 // Runs the venue and the show of the folder that it is run in, `venue.bin` and `show.bin`, under the ordered rule: it reads a call
 // from each line of standard input and prints its answer and the distance home, or where the files are refused, what is wrong with them.
+#![tactic(auto)]
+
 use console::console::Console;
 use lines::pending::Pending;
 use opening::open;

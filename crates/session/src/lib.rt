@@ -1,4 +1,6 @@
 // A run, line by line.
+#![tactic(auto)]
+
 pub mod rows;
 pub mod session;
 pub mod shown;

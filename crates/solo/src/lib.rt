@@ -1,4 +1,6 @@
 // A clearing rule of another house: one piece at a time.
+#![tactic(auto)]
+
 ghost use Rattle.std.specs.Prelude.{◌≡◌, ℕ, length, MatchOption};
 ghost use Rattle.rules.specs.Placing.{On};
 ghost use Rattle.solo.specs.Solo.{Solo, SoloNames};

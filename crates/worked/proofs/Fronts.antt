@@ -1,5 +1,5 @@
 -- Placings with the first pieces on.
-use Rattle.std.proofs.Common.{◌≡◌, ℕ, zero, suc, ◌<◌, List, [], ◌∷◌, ◌++◌, length, get_or, replicate, refl, arith}
+use Rattle.std.proofs.Common.{ℕ, zero, suc, ◌<◌, List, [], ◌∷◌, ◌++◌, length, replicate, arith}
 use Rattle.std.specs.List.{AllByRecursion as All}
 use Rattle.tables.specs.Plan.{Plan, count}
 use Rattle.figures.specs.Placing.{off}

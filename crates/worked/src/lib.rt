@@ -1,4 +1,6 @@
 // The worked examples of the documentation, proved as instances of the definitions.
+#![tactic(auto)]
+
 ghost use Rattle.worked.specs.Examples.{Examples};
 
 #[cfg(test)]

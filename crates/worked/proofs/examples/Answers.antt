@@ -1,5 +1,5 @@
-use Rattle.std.proofs.Common.{◌≡◌, ℕ, ◌≤◌, List, [], ◌∷◌, set, refl, inl, arith}
-use Rattle.tables.specs.Plan.{capacity, goal}
+use Rattle.std.proofs.Common.{ℕ, ◌≤◌, List, [], ◌∷◌, set, refl, inl, arith}
+use Rattle.tables.specs.Plan.{capacity, need}
 use Rattle.figures.specs.Claims.{claim}
 use Rattle.figures.specs.Placing.{off}
 use Rattle.figures.proofs.Bounds.{claim-le}
@@ -7,7 +7,7 @@ use Rattle.rules.specs.Placing.{Fits, held, total}
 use Rattle.rules.specs.Ordered.{Ordered}
 use Rattle.rules.specs.Placings.{nobody-on}
 use Rattle.rules.specs.Kept.{kept-empty}
-use Rattle.home_order.specs.HomeOrder.{GoesHome, AllGoHome, HomeOrder}
+use Rattle.home_order.specs.HomeOrder.{GoesHome, AllGoHome}
 use Rattle.home_order.specs.Goers.{Stuck}
 use Rattle.home_order.specs.Homes.{stuck-order}
 use Rattle.home_order.specs.Points.{home-empty}
@@ -85,7 +85,7 @@ returns c = record {
   crossed_ordered = crossed_ordered;
   crossed_either = inl crossed_ordered;
   past_lower = refl;
-  empty_room = λ t sound. kept-empty t (λ r p. goal t p r) (λ r p. sound.room p r);
+  empty_room = λ t sound. kept-empty t (λ r p. need t p r) (λ r p. sound.room p r);
   empty_ordered = λ t sound. kept-empty t (claim t) (claim-le t sound);
   empty_home = λ t sound. home-empty t sound;
   empty_either = λ t sound. inl (kept-empty t (claim t) (claim-le t sound));

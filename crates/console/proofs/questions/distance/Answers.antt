@@ -1,4 +1,4 @@
-use Rattle.std.proofs.Common.{◌≡◌, length, get_or, ap, ◌∙◌, arith, take_all}
+use Rattle.std.proofs.Common.{get_or, ap, ◌∙◌, arith, take_all}
 use Rattle.std.proofs.lemmas.List.Sums.{sum_by_more}
 use Rattle.tables.specs.Plan.{plan}
 use Rattle.figures.specs.Way.{way_length}
@@ -9,8 +9,8 @@ use Rattle.rules.specs.Placings.{if-on, if-off}
 use Rattle.console.proofs.questions.distance.Goals as goal
 use Rattle.console.proofs.questions.distance.Goals.{then-p, else-p}
 
-pub overflow-add-sum : goal.overflow-add-sum
-overflow-add-sum c =
+pub overflow_add-sum : goal.overflow_add-sum
+overflow_add-sum c =
     let tables = c.args.stage.now.tables in
     omega (arith, c.length-sum.ensures, length-any (plan tables) (sound tables) (get_or c.args.placing.now c.loop-p.p-index 0))
 

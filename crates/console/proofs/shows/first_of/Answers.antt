@@ -1,4 +1,4 @@
-use Rattle.std.proofs.Common.{◌≡◌, ◌<◌, length, ap, ◌∙◌, arith}
+use Rattle.std.proofs.Common.{◌<◌, length, ap, ◌∙◌, arith}
 use Rattle.tables.specs.Plan.{plan, routes}
 use Rattle.figures.proofs.Sounds.{sound}
 use Rattle.console.proofs.Shown.{route-count}

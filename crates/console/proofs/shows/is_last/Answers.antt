@@ -7,4 +7,4 @@ pub returns : goal.returns
 returns c =
     let t = plan c.args.tables.now in
     let same : c.nexts.result.now ≡ next t c.args.p = c.nexts.ensures ∙ ap (next t) c.from.ensures in
-    subst (λ b. Decides b (next t c.args.p ≡ [])) (sym c.is-empty.ensures) (subst (λ (xs : List ℕ). Decides (eqb (length xs) 0) (next t c.args.p ≡ [])) (sym same) (empty-decides (next t c.args.p)))
+    subst (λ b. Decides b (next t c.args.p ≡ [])) (sym c.is_empty.ensures) (subst (λ (xs : List ℕ). Decides (eqb (length xs) 0) (next t c.args.p ≡ [])) (sym same) (empty-decides (next t c.args.p)))

@@ -8,10 +8,10 @@ use Rattle.home_order.specs.HomeOrder.{GoesHome}
 use Rattle.home_order.specs.Sums.{PeaksFit}
 use Rattle.home_order.specs.Peaks.{peaks-go, go-peaks}
 use Rattle.home_order.proofs.goers.first_to_go.Goals as goal
-use Rattle.home_order.proofs.goers.first_to_go.Goals.{else-p-via-then-p+else-peaks-fit, else-p-via-else-p}
+use Rattle.home_order.proofs.goers.first_to_go.Goals.{else-p-via-then-p+else-peaks_fit, else-p-via-else-p}
 
-pub returns-then-peaks-fit : goal.returns-then-peaks-fit
-returns-then-peaks-fit c =
+pub returns-then-peaks_fit : goal.returns-then-peaks_fit
+returns-then-peaks_fit c =
     let tables = c.args.stage.now.tables in
     let t = plan tables in
     let w = c.args.placing.now in
@@ -20,7 +20,7 @@ returns-then-peaks-fit c =
     let on : On w k = λ e. c.if-p.true (same ∙ e) in
     record {
       on = on;
-      goes = peaks-go t (sound tables) w _ k on c.requires.sums (subst (PeaksFit t c.args.sums.now) same (c.peaks-fit.ensures.0 c.if-peaks-fit.true));
+      goes = peaks-go t (sound tables) w _ k on c.requires.sums (subst (PeaksFit t c.args.sums.now) same (c.peaks_fit.ensures.0 c.if-peaks_fit.true));
       first = λ j there before. c.loop-k.invariant j before there;
     }
 
@@ -33,8 +33,8 @@ loop-k-preserved c =
     let same = read_at w c.from.result k c.from.ensures (omega (arith, c.requires.formed.0)) in
     let here : On w k → GoesHome (Fits t) t w k → ⊥ = λ on goes.
     elim c.else-p.branch [
-      | else-p-via-then-p+else-peaks-fit v ↦
-          true≢false (sym (v.peaks-fit.ensures.1 (subst (PeaksFit t c.args.sums.now) (sym same) (go-peaks t (sound tables) w _ k on c.requires.sums goes))) ∙ v.if-peaks-fit.false)
+      | else-p-via-then-p+else-peaks_fit v ↦
+          true≢false (sym (v.peaks_fit.ensures.1 (subst (PeaksFit t c.args.sums.now) (sym same) (go-peaks t (sound tables) w _ k on c.requires.sums goes))) ∙ v.if-peaks_fit.false)
       | else-p-via-else-p v ↦ on (sym same ∙ v.if-p.false)
     ] in
     below_more (λ j. On w j → GoesHome (Fits t) t w j → ⊥) k c.loop-k.invariant here

@@ -17,7 +17,7 @@ loop-p-preserved g c =
       | then-p v ↦
           let is = if-on f p v.if-p.true in
           let read = v.from-sum.ensures ∙ v.amount.ensures in
-          (omega (arith, read, is, more, v.sum-is), omega (arith, v.sum-is, v.from-sum.ensures, v.amount.type-inv))
+          (omega (arith, read, is, more, v.sum-is), omega (arith, v.sum-is, v.from-sum.ensures, v.amount.type_inv))
       | else-p v ↦
           let is = if-off f p v.if-p.false in
           (omega (arith, is, more, v.sum-is), omega (arith, v.sum-is))

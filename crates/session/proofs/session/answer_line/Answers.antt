@@ -6,17 +6,17 @@ use Rattle.session.proofs.session.answer_line.Goals as goal
 
 pub returns-in-Some : goal.returns-in-Some
 returns-in-Some c =
-    let done = c.ordered-call-answer.ensures in
-    let after = c.ordered-call-answer.new.console in
+    let done = c.ordered_call-answer.ensures in
+    let after = c.ordered_call-answer.new.console in
     record {
       stage = done.stage;
       answered = λ text held. record {
         answer = inl (record {
           call = c.in-Some.call;
           says = c.in-Some.ensures text held;
-          given = c.ordered-call-answer.result;
+          given = c.ordered_call-answer.result;
           made = done.call;
-          shown = c.shown.ensures.answer ∙ c.number-of.ensures;
+          shown = c.shown.ensures.answer ∙ c.number_of.ensures;
         });
         home = c.shown.ensures.distance ∙ ap (λ (s : Stage). distance (plan s.tables) after.placing) done.stage;
       };

@@ -7,19 +7,19 @@ use Rattle.rules.specs.Placings.{on_below, formed-set}
 use Rattle.rules.specs.Orders.{stepped-placed}
 use Rattle.console.proofs.console.Console.step_home.Goals as goal
 
-pub number-of-requires : goal.number-of-requires
-number-of-requires g c = let self = c.args.self.now in omega (arith, on_below self.placing c.args.piece c.requires, self.formed.0, c.from-k.ensures)
+pub number_of-requires : goal.number_of-requires
+number_of-requires g c = let self = c.args.self.now in omega (arith, on_below self.placing c.args.piece c.requires, self.formed.0, c.from-k.ensures)
 
 pub bounds-self-k : goal.bounds-self-k
 bounds-self-k g c = let self = c.args.self.now in omega (arith, on_below self.placing c.args.piece c.requires, self.formed.0, c.from-k.ensures)
 
-pub invariant-of-self : goal.invariant-of-self
-invariant-of-self g c =
+pub invariant_of-self : goal.invariant_of-self
+invariant_of-self g c =
     let self = c.args.self.now in
     let t = plan self.stage.tables in
     let at = c.from-k.result in
     let k : at < 64 = omega (arith, on_below self.placing c.args.piece c.requires, self.formed.0, c.from-k.ensures) in
-    (subst (λ q. Formed t (set self.placing at q)) (sym c.step-from.ensures) (formed-set t self.placing at (stepped t c.number-of.result) k (stepped-placed t (sound self.stage.tables) c.number-of.result) self.formed), tt)
+    record { formed = subst (λ q. Formed t (set self.placing at q)) (sym c.step_from.ensures) (formed-set t self.placing at (stepped t c.number_of.result) k (stepped-placed t (sound self.stage.tables) c.number_of.result) self.formed) }
 
 pub returns : goal.returns
 returns g c =
@@ -28,5 +28,5 @@ returns g c =
     record {
       stage = refl;
       rule = refl;
-      placing = ap (set self.placing c.from-k.result) (c.step-from.ensures ∙ ap (stepped t) c.number-of.ensures) ∙ ap (λ k. home_step t self.placing k) c.from-k.ensures;
+      placing = ap (set self.placing c.from-k.result) (c.step_from.ensures ∙ ap (stepped t) c.number_of.ensures) ∙ ap (λ k. home_step t self.placing k) c.from-k.ensures;
     }

@@ -2,7 +2,7 @@ use Rattle.tables.specs.Plan.{plan}
 use Rattle.rules.specs.Placings.{formed-off}
 use Rattle.console.proofs.console.Console.take_off.Goals as goal
 
-pub invariant-of-self : goal.invariant-of-self
-invariant-of-self g c =
+pub invariant_of-self : goal.invariant_of-self
+invariant_of-self g c =
     let self = c.args.self.now in
-    (formed-off (plan self.stage.tables) self.placing c.args.k c.requires self.formed, tt)
+    record { formed = formed-off (plan self.stage.tables) self.placing c.args.k c.requires self.formed }
