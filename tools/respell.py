@@ -29,7 +29,7 @@ TAKEN = {
 PLACED = ("Answers.antt", "Invariants.antt", "Proof.antt")
 HEAD = re.compile(r"^\s*(?:(?:pub|abbrev|unfoldable)\s+)*([^\s(){}\[\];:,]+)\s*(?:\([^()]*\)\s*|\{[^{}]*\}\s*)*:\s")
 TOKEN = re.compile(r"[^\W\d][\w'-]*")
-STRING = re.compile(r"\"(?:[^\"\\]|\\.)*\"")
+STRING = re.compile(r"'(?:[^'\\]|\\.)'|\"(?:[^\"\\]|\\.)*\"")
 
 
 def files(root, ending):
