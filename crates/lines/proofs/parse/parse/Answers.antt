@@ -1,3 +1,4 @@
+use Rattle.std.proofs.Common.{arith}
 use Rattle.lines.proofs.Sayings.{only-start, only-move, only-leave, just-clear}
 use Rattle.lines.proofs.parse.parse.Goals as goal
 
@@ -11,4 +12,4 @@ pub returns-in-None-number : goal.returns-in-None-number
 returns-in-None-number c = only-leave c.args.line.now c.in-Some-behind-2.text.now c.in-Some-behind-2.ensures c.in-None-number.ensures
 
 pub returns-in-Some-behind-3 : goal.returns-in-Some-behind-3
-returns-in-Some-behind-3 c = just-clear c.args.line.now c.in-Some-behind-3.text.now c.in-Some-behind-3.ensures c.if-text-eq0.true
+returns-in-Some-behind-3 c = just-clear c.args.line.now c.in-Some-behind-3.text.now c.in-Some-behind-3.ensures (omega arith)
