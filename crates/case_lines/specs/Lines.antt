@@ -12,11 +12,11 @@ abbrev pub refused_line : ℕ → ℕ → ℕ → ℕ → ℕ → ℕ → List �
 refused_line file number layer place byte part =
     codes "refused " ++ (decimal file ++ (codes " " ++ (decimal number ++ (codes " " ++ (decimal layer ++ (codes " " ++ (decimal place ++ (codes " " ++ (decimal byte ++ (codes " " ++ decimal part))))))))))
 
--- the length of a file that came back to the byte, else 0
-abbrev pub if_same : Option ℕ → ℕ → ℕ
-if_same None n = n
-if_same (Some i) n = 0
+-- the length of a file that came back to the byte
+abbrev pub if_same : Option ℕ → ℕ → Option ℕ
+if_same None n = Some n
+if_same (Some i) n = None
 
-abbrev pub length_of : Result Back TooShort → ℕ
+abbrev pub length_of : Result Back TooShort → Option ℕ
 length_of (Ok b) = if_same b.differs b.length
-length_of (Err e) = 0
+length_of (Err e) = None

@@ -4,25 +4,18 @@ ghost use Rattle.std.specs.Option.{option_map};
 ghost use Rattle.case_lines.specs.Hex.{Cut, Halves, Reads, ReadsPair, spelling};
 
 use crate::hex::decoded;
+use fields::spot::Files;
 use std::alloc::{AllocError, Global};
-
-#[derive(Drop)]
-pub struct Files {
-    pub venue: Vec<u8>,
-    pub show: Vec<u8>,
-}
 
 // A file in hexadecimal, or `-` for an empty one.
 fn file_of(heap: Global, text: &str) -> Result<Option<Vec<u8>>, AllocError>
     ensures { IfOk result (λ o. Reads spelling text.now (option_map vec_items o)) }
 {
-    if text == "-" {
-        return Ok(Some(Vec::new(heap)));
+    match text {
+        "-" => Ok(Some(Vec::new(heap))),
+        "" => Ok(None),
+        _ => decoded(heap, text.as_bytes()),
     }
-    if text.is_empty() {
-        return Ok(None);
-    }
-    decoded(heap, text.as_bytes())
 }
 
 // The texts before and behind the first space.
@@ -35,16 +28,12 @@ fn halves(text: &str) -> Option<(&str, &str)>
 fn pair_of(heap: Global, venue: &str, show: &str) -> Result<Option<Files>, AllocError>
     ensures { (text : List ℕ) → Cut text venue.now show.now → IfOk result (λ o. ReadsPair text (option_map (λ f. (f.venue.items, f.show.items)) o)) }
 {
-    let Some(venue) = file_of(heap, venue)? else {
-        return Ok(None);
-    };
-    let Some(show) = file_of(heap, show)? else {
-        return Ok(None);
-    };
-    Ok(Some(Files { venue, show }))
+    let venue = file_of(heap, venue)?;
+    let show = file_of(heap, show)?;
+    Ok(venue.zip(show).map(|(venue, show)| Files { venue, show }))
 }
 
-// The venue file, a space, and the show file.
+// The venue file, a space, and the show file. A text without a space is no want of memory, so `?` does not hand it on.
 pub fn files_of(heap: Global, text: &str) -> Result<Option<Files>, AllocError>
     ensures { IfOk result (λ o. ReadsPair text.now (option_map (λ f. (f.venue.items, f.show.items)) o)) }
 {

@@ -1,12 +1,14 @@
-// What is said of a pair of files, in numbers.
+// What is said of a pair of files: it is printed in numbers.
 ghost use Rattle.std.specs.Prelude.{◌≡◌, length, Some, vec_len};
 ghost use Rattle.refusals.specs.Refusals.{number_of};
 ghost use Rattle.faults.specs.Faults.{refusal_of, layer_of, spot_of, layer_number, number_of_file, offending_of};
 ghost use Rattle.case_lines.specs.Lines.{accepted_line, refused_line};
 
-use faults::fault::file_number;
+use faults::fault::{Layer, file_number};
 use faults::layers::FitFault;
 use faults::offending::offending;
+use fields::spot::{Pair, Spot};
+use refusals::Refusal;
 use std::fmt;
 use tables::tables::Tables;
 
@@ -19,11 +21,10 @@ pub struct Accepted {
 
 #[derive(Clone, Copy)]
 pub struct Refused {
-    file: u8,
-    number: u8,
-    layer: u8,
-    place: usize,
-    byte: u8,
+    refusal: Refusal,
+    layer: Layer,
+    spot: Spot,
+    // how long the offending field is
     part: usize,
 }
 
@@ -42,22 +43,17 @@ impl Accepted {
 }
 
 impl Refused {
-    pub fn of(fault: FitFault, venue: &[u8], show: &[u8]) -> Refused
-        ensures file { result.file ≡ number_of_file (spot_of fault).file }
-        ensures number { result.number ≡ number_of (refusal_of fault) }
-        ensures layer { result.layer ≡ layer_number (layer_of fault) }
-        ensures place { result.place ≡ (spot_of fault).place }
-        ensures byte { result.byte ≡ (spot_of fault).byte }
-        ensures part { result.part ≡ length (offending_of fault venue.now show.now) }
+    pub fn of(fault: FitFault, pair: Pair<'_>) -> Refused
+        ensures refusal { result.refusal ≡ refusal_of fault }
+        ensures layer { result.layer ≡ layer_of fault }
+        ensures spot { result.spot ≡ spot_of fault }
+        ensures part { result.part ≡ length (offending_of fault pair.entry.venue.now pair.entry.show.now) }
     {
-        let spot = fault.spot();
         Refused {
-            file: file_number(spot.file),
-            number: fault.refusal().number(),
-            layer: fault.layer().number(),
-            place: spot.place,
-            byte: spot.byte,
-            part: offending(fault, venue, show).len(),
+            refusal: fault.refusal(),
+            layer: fault.layer(),
+            spot: fault.spot(),
+            part: offending(fault, pair).len(),
         }
     }
 }
@@ -76,17 +72,18 @@ impl fmt::Display for Accepted {
 }
 
 impl fmt::Display for Refused {
-    ghost output = { λ f. Some (refused_line f.file f.number f.layer f.place f.byte f.part) };
+    ghost output = { λ f. Some (refused_line (number_of_file f.spot.file) (number_of f.refusal) (layer_number f.layer) f.spot.place f.spot.byte f.part) };
 
     fn fmt<W: fmt::Write>(&self, f: &mut fmt::Formatter<W>) -> fmt::Result {
         let Refused {
-            file,
-            number,
+            refusal,
             layer,
-            place,
-            byte,
+            spot: Spot { file, place, byte },
             part,
         } = *self;
+        let file = file_number(file);
+        let number = u8::from(refusal);
+        let layer = u8::from(layer);
         write!(f, "refused {file} {number} {layer} {place} {byte} {part}")
     }
 }

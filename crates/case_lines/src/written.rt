@@ -5,8 +5,8 @@ ghost use Rattle.case_lines.specs.Lines.{length_of};
 use refusals::TooShort;
 use round_trip::back::Back;
 
-// The length of a file that came back to the byte; 0 for one that did not, since no file is empty.
-pub fn length_of(back: Result<Back, TooShort>) -> usize
+// The length of a file that came back to the byte.
+pub fn length_of(back: Result<Back, TooShort>) -> Option<usize>
     ensures { result ≡ length_of back }
 {
     match back {
@@ -15,7 +15,7 @@ pub fn length_of(back: Result<Back, TooShort>) -> usize
                 length,
                 differs: None,
             },
-        ) => length,
-        _ => 0,
+        ) => Some(length),
+        _ => None,
     }
 }

@@ -5,7 +5,8 @@
 use case_lines::case::files_of;
 use case_lines::verdict::{Accepted, Refused};
 use case_lines::written::length_of;
-use files::pair;
+use fields::spot::Pair;
+use files::pair::read;
 use round_trip::back::{show_back, venue_back};
 use std::io;
 use std::io::{BufRead, BufReader};
@@ -17,31 +18,31 @@ fn answer_accepted(
     rt: &HostRuntime,
     label: &str,
     tables: &Tables,
-    venue: &[u8],
-    show: &[u8],
+    pair: Pair<'_>,
 ) -> io::Result<()> {
-    let mut space = vec![in rt.alloc(); 0u8; venue.len().max(show.len())]?;
-    let venue = venue_back(&tables.venue, venue, space.as_mut_slice());
-    let show = show_back(&tables.show, show, space.as_mut_slice());
+    let mut space = vec![in rt.alloc(); 0u8; pair.venue.len().max(pair.show.len())]?;
+    let venue = venue_back(&tables.venue, pair.venue, space.as_mut_slice());
+    let show = show_back(&tables.show, pair.show, space.as_mut_slice());
+    // No file is empty: 0 says of one that it did not come back.
     println!(rt;
         "{label} {} written {} {}",
         Accepted::of(tables),
-        length_of(venue),
-        length_of(show)
+        length_of(venue).unwrap_or(0),
+        length_of(show).unwrap_or(0)
     )
 }
 
-fn answer(rt: &HostRuntime, label: &str, venue: &[u8], show: &[u8]) -> io::Result<()> {
-    match pair::read(Reserve::take(rt.alloc())?, venue, show) {
-        Ok(tables) => answer_accepted(rt, label, &tables, venue, show),
-        Err(fault) => println!(rt; "{label} {}", Refused::of(fault, venue, show)),
+fn answer(rt: &HostRuntime, label: &str, pair: Pair<'_>) -> io::Result<()> {
+    match read(Reserve::take(rt.alloc())?, pair) {
+        Ok(tables) => answer_accepted(rt, label, &tables, pair),
+        Err(fault) => println!(rt; "{label} {}", Refused::of(fault, pair)),
     }
 }
 
 fn answer_line(rt: &HostRuntime, line: &str) -> io::Result<()> {
     let (label, rest) = line.split_once(' ').unwrap_or((line, ""));
     match files_of(rt.alloc(), rest)? {
-        Some(files) => answer(rt, label, files.venue.as_slice(), files.show.as_slice()),
+        Some(files) => answer(rt, label, files.pair()),
         None => println!(rt; "{label} bad"),
     }
 }

@@ -5,7 +5,6 @@ ghost use Rattle.rules.specs.Placing.{Formed, nobody};
 
 use figures::stage::Stage;
 use rules::placing::OFF;
-use tables::tables::Tables;
 
 #[derive(Drop)]
 pub struct Console<R> {
@@ -15,14 +14,6 @@ pub struct Console<R> {
     ghost formed: { Formed (plan stage.tables) placing },
 }
 
-// All pieces off.
-fn nobody_on(tables: &Tables) -> [u16; 64]
-    ensures empty { result ≡ nobody }
-    ensures formed { Formed (plan tables.now) result }
-{
-    [OFF; 64]
-}
-
 impl<R> Console<R> {
     // A console with all pieces off.
     pub fn open(stage: Stage, rule: R) -> Console<R>
@@ -30,11 +21,10 @@ impl<R> Console<R> {
         ensures rule { result.rule ≡ rule }
         ensures empty { result.placing ≡ nobody }
     {
-        let placing = nobody_on(&stage.tables);
         Console {
             stage,
             rule,
-            placing,
+            placing: [OFF; 64],
         }
     }
 }

@@ -16,27 +16,25 @@ use rules::placing::{OFF, pieces_on};
 fn distance(stage: &Stage, placing: &[u16; 64]) -> u16
     ensures { result ≡ distance (plan stage.now.tables) placing.now }
 {
-    let mut sum = 0;
-    for p in placing {
-        if *p != OFF {
-            sum += stage.length(*p);
-        }
-    }
-    sum
+    placing
+        .iter()
+        .filter(|p| **p != OFF)
+        .map(|p| stage.length(*p))
+        .sum()
 }
 
 impl<R> Console<R> {
-    // Where a piece is: its position, or 65,535 for off.
+    // Where a piece is: its position, or 65,535 for off. The number that is called is a place in the table as it is.
     pub fn whereabouts(&self, piece: u32) -> Result<u16, Refusal>
         ensures { MatchResult result (λ p. (piece < 64) × (p ≡ slice_index_or self.now.placing piece off)) (λ e. (64 ≤ piece) × (e ≡ NoSuchPiece)) }
     {
-        if piece >= 64 {
-            return Err(Refusal::NoSuchPiece);
-        }
-        Ok(self.number_of(piece as usize))
+        self.placing
+            .get(piece as usize)
+            .copied()
+            .ok_or(Refusal::NoSuchPiece)
     }
 
-    // How much of a resource the pieces on hold.
+    // How much of a resource the pieces on hold. The number alone is tested, since nothing else of the resource is looked at.
     pub fn held(&self, resource: u32) -> Result<u32, Refusal>
         ensures { MatchResult result (λ n. (resource < kinds (plan self.now.stage.tables)) × (n ≡ held (plan self.now.stage.tables) resource self.now.placing)) (λ e. (kinds (plan self.now.stage.tables) ≤ resource) × (e ≡ NoSuchResource)) }
     {

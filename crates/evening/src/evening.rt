@@ -10,21 +10,22 @@ ghost use Rattle.evening.specs.Run.{Run};
 use crate::step::Step;
 use console::console::Console;
 use faults::layers::FitFault;
+use fields::spot::Pair;
 use opening::open;
 use rules::rule::ClearingRule;
 use tables::reserve::Reserve;
 
 // Makes each call, and writes its answer and the home figures after it beside it.
 fn run<R: ClearingRule>(console: &mut Console<R>, steps: &mut [Step])
-    requires stands { Stands (plan console.old.stage.tables) (R.AdmissionRule.allowed console.old.rule (plan console.old.stage.tables)) (R.ClearingRule.named console.old.rule (plan console.old.stage.tables)) [] console.old.placing }
-    requires kept { Kept (plan console.old.stage.tables) (R.AdmissionRule.allowed console.old.rule (plan console.old.stage.tables)) (R.ClearingRule.named console.old.rule (plan console.old.stage.tables)) [] }
-    ensures { Run (plan console.old.stage.tables) (R.AdmissionRule.allowed console.old.rule (plan console.old.stage.tables)) (R.ClearingRule.named console.old.rule (plan console.old.stage.tables)) steps.old steps.new }
+    requires stands { let t = plan console.old.stage.tables in Stands t (R.AdmissionRule.allowed console.old.rule t) (R.ClearingRule.named console.old.rule t) [] console.old.placing }
+    requires kept { let t = plan console.old.stage.tables in Kept t (R.AdmissionRule.allowed console.old.rule t) (R.ClearingRule.named console.old.rule t) [] }
+    ensures { let t = plan console.old.stage.tables in Run t (R.AdmissionRule.allowed console.old.rule t) (R.ClearingRule.named console.old.rule t) steps.old steps.new }
 {
-    for n in 0..steps.len() {
-        let call = steps[n].call;
+    for step in steps.iter_mut() {
+        let call = step.call;
         let answer = console.call(call);
         let (pieces, distance) = console.home();
-        steps[n] = Step {
+        *step = Step {
             call,
             answer,
             pieces,
@@ -36,16 +37,15 @@ fn run<R: ClearingRule>(console: &mut Console<R>, steps: &mut [Step])
 // Reads both files and makes each call of the steps on a fresh console under the rule. The steps are left as they were where the files are refused.
 pub fn evening<R: ClearingRule + Drop>(
     reserve: Reserve,
-    venue: &[u8],
-    show: &[u8],
+    pair: Pair<'_>,
     rule: R,
     steps: &mut [Step],
 ) -> Result<(), FitFault>
-    ensures accepted { (c : Contents) → Laid venue.now show.now c → OnOk result (Run (plan_of c) (R.AdmissionRule.allowed rule (plan_of c)) (R.ClearingRule.named rule (plan_of c)) steps.old steps.new) }
-    ensures granted { OnOk result ((c : Contents) × Laid venue.now show.now c) }
-    ensures fault { IfErr result (λ e. FaultOf venue.now show.now e × (steps.new ≡ steps.old)) }
+    ensures accepted { (c : Contents) → Laid pair.entry.venue.now pair.entry.show.now c → let t = plan_of c in OnOk result (Run t (R.AdmissionRule.allowed rule t) (R.ClearingRule.named rule t) steps.old steps.new) }
+    ensures granted { OnOk result ((c : Contents) × Laid pair.entry.venue.now pair.entry.show.now c) }
+    ensures fault { IfErr result (λ e. FaultOf pair.entry.venue.now pair.entry.show.now e × (steps.new ≡ steps.old)) }
 {
-    let stage = open(reserve, venue, show)?;
+    let stage = open(reserve, pair)?;
     let mut console = Console::begin(stage, rule);
     run(&mut console, steps);
     Ok(())

@@ -1,7 +1,8 @@
 // Whole evenings: answers, pieces on and distances home.
 use crate::evening::evening;
 use crate::step::Step;
-use history::calls::{Answer, Call};
+use fields::spot::Pair;
+use history::calls::{Answer, Call, Granted};
 use home_order::HomeOrderRule;
 use rules::either::EitherRule;
 use rules::ordered::OrderedRule;
@@ -13,27 +14,26 @@ use std::test::Fail;
 use tables::reserve::Reserve;
 
 // Lane (capacity 1, order 1) and lift (capacity 2, order 2); two routes, lane then lift and lift then lane.
-static VENUE: &[u8] =
-    b"\x01\x00\x02V\x01\x10\x00\x0b\x00\x01\x01lane    \x10\x00\x0b\x00\x02\x02lift    \x7f\x00\x00";
-
-static SHOW: &[u8] =
-    b"\x01\x00\x02S\x01 \x00\x02\x00\x02!\x00\x05\x01\x01\x00\x00\x01!\x00\x04\x00\x01\x00\x01 \x00\x02\x00\x02!\x00\x05\x01\x03\x01\x00\x01!\x00\x04\x00\x00\x00\x01\x7f\x00\x00";
+static EXAMPLE: Pair<'static> = Pair {
+    venue: b"\x01\x00\x02V\x01\x10\x00\x0b\x00\x01\x01lane    \x10\x00\x0b\x00\x02\x02lift    \x7f\x00\x00",
+    show: b"\x01\x00\x02S\x01 \x00\x02\x00\x02!\x00\x05\x01\x01\x00\x00\x01!\x00\x04\x00\x01\x00\x01 \x00\x02\x00\x02!\x00\x05\x01\x03\x01\x00\x01!\x00\x04\x00\x00\x00\x01\x7f\x00\x00",
+};
 
 // Room for 64 at one position.
-static WIDE_VENUE: &[u8] = b"\x01\x00\x02V\x01\x10\x00\x0b\x00@\x01crew    \x7f\x00\x00";
-
-static WIDE_SHOW: &[u8] =
-    b"\x01\x00\x02S\x01 \x00\x02\x00\x01!\x00\x04\x00\x00\x00\x01\x7f\x00\x00";
+static WIDE: Pair<'static> = Pair {
+    venue: b"\x01\x00\x02V\x01\x10\x00\x0b\x00@\x01crew    \x7f\x00\x00",
+    show: b"\x01\x00\x02S\x01 \x00\x02\x00\x01!\x00\x04\x00\x00\x00\x01\x7f\x00\x00",
+};
 
 // Two lanes; a route that goes from one lane on to a choice of both lanes, named first, or none.
-static CHOICE_VENUE: &[u8] = b"\x01\x00\x02V\x01\x10\x00\x0b\x00\x02\x01lane    \x7f\x00\x00";
-
-static CHOICE_SHOW: &[u8] =
-    b"\x01\x00\x02S\x01 \x00\x02\x00\x03!\x00\x06\x02\x02\x01\x00\x00\x01!\x00\x01\x00!\x00\x04\x00\x00\x00\x02\x7f\x00\x00";
+static CHOICE: Pair<'static> = Pair {
+    venue: b"\x01\x00\x02V\x01\x10\x00\x0b\x00\x02\x01lane    \x7f\x00\x00",
+    show: b"\x01\x00\x02S\x01 \x00\x02\x00\x03!\x00\x06\x02\x02\x01\x00\x00\x01!\x00\x01\x00!\x00\x04\x00\x00\x00\x02\x7f\x00\x00",
+};
 
 const NOT_YET: Step = Step {
     call: Call::Clear,
-    answer: Answer::Granted,
+    answer: Ok(Granted::Moved),
     pieces: 999,
     distance: 999,
 };
@@ -41,16 +41,15 @@ const NOT_YET: Step = Step {
 // 0 for what is granted, else the refusal's number.
 fn number_of(answer: Answer) -> u8 {
     match answer {
-        Answer::Granted => 0,
-        Answer::Cleared(_) => 0,
-        Answer::Refused(refusal) => refusal.number(),
+        Ok(_) => 0,
+        Err(refusal) => u8::from(refusal),
     }
 }
 
 fn check_evening<R: ClearingRule + Drop>(
     rt: &impl Abort,
     heap: Global,
-    files: (&[u8], &[u8]),
+    pair: Pair<'_>,
     rule: R,
     calls: &[Call],
     answers: &[u8],
@@ -60,7 +59,7 @@ fn check_evening<R: ClearingRule + Drop>(
     for (step, call) in steps.iter_mut().zip(calls.iter()) {
         step.call = *call;
     }
-    if evening(Reserve::take(heap)?, files.0, files.1, rule, &mut steps).is_err() {
+    if evening(Reserve::take(heap)?, pair, rule, &mut steps).is_err() {
         return Err(Fail::new("the pair is refused"));
     }
     for (n, step) in steps.iter().take(calls.len()).enumerate() {
@@ -79,7 +78,7 @@ fn the_shipped_run(rt: HostRuntime) -> Result<(), Fail> {
     check_evening(
         &rt,
         rt.alloc(),
-        (VENUE, SHOW),
+        EXAMPLE,
         OrderedRule,
         &[
             Call::Start(0, 0),
@@ -108,7 +107,7 @@ fn every_refusal(rt: HostRuntime) -> Result<(), Fail> {
     check_evening(
         &rt,
         rt.alloc(),
-        (VENUE, SHOW),
+        EXAMPLE,
         OrderedRule,
         &[
             Call::Clear,
@@ -139,7 +138,7 @@ fn a_choice_of_ways(rt: HostRuntime) -> Result<(), Fail> {
     check_evening(
         &rt,
         rt.alloc(),
-        (CHOICE_VENUE, CHOICE_SHOW),
+        CHOICE,
         OrderedRule,
         &[
             Call::Start(0, 0),
@@ -171,26 +170,18 @@ fn every_rule(rt: HostRuntime) -> Result<(), Fail> {
     let answers = [0, 0, 0, 0, 0, 0, 7];
     let distances = [2, 4, 3, 2, 1, 0, 0];
     let heap = rt.alloc();
-    let files = (VENUE, SHOW);
-    check_evening(&rt, heap, files, OrderedRule, &calls, &answers, &distances)?;
-    check_evening(
-        &rt,
-        heap,
-        files,
-        HomeOrderRule,
-        &calls,
-        &answers,
-        &distances,
-    )?;
+    let pair = EXAMPLE;
+    check_evening(&rt, heap, pair, OrderedRule, &calls, &answers, &distances)?;
+    check_evening(&rt, heap, pair, HomeOrderRule, &calls, &answers, &distances)?;
     let either = EitherRule {
         first: SoloRule,
         second: OrderedRule,
     };
-    check_evening(&rt, heap, files, either, &calls, &answers, &distances)?;
+    check_evening(&rt, heap, pair, either, &calls, &answers, &distances)?;
     check_evening(
         &rt,
         heap,
-        files,
+        pair,
         SoloRule,
         &calls,
         &[0, 8, 0, 0, 7, 7, 7],
@@ -205,15 +196,7 @@ fn a_full_stage(rt: HostRuntime) -> Result<(), Fail> {
     for (step, piece) in steps.iter_mut().zip(0..65u32) {
         step.call = Call::Start(piece, 0);
     }
-    if evening(
-        Reserve::take(rt.alloc())?,
-        WIDE_VENUE,
-        WIDE_SHOW,
-        OrderedRule,
-        &mut steps,
-    )
-    .is_err()
-    {
+    if evening(Reserve::take(rt.alloc())?, WIDE, OrderedRule, &mut steps).is_err() {
         return Err(Fail::new("the pair is refused"));
     }
     assert_eq!(rt; steps[63].pieces, 64);

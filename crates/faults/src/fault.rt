@@ -15,15 +15,15 @@ pub enum Layer {
     Fit = 4,
 }
 
-impl Layer {
-    pub fn number(self) -> u8
-        ensures { result ≡ layer_number self }
-    {
-        self as u8
+impl From<Layer> for u8 {
+    ghost from_gives = { λ layer n. n ≡ layer_number layer };
+
+    fn from(layer: Layer) -> u8 {
+        layer as u8
     }
 }
 
-// 1 for the venue file, 2 for the show file.
+// 1 for the venue file, 2 for the show file. In a header the same two have another number each, so neither is their one number.
 pub fn file_number(file: File) -> u8
     ensures { result ≡ number_of_file file }
 {

@@ -19,6 +19,7 @@ pub enum FitFault {
     AboveCapacity(Spot),
 }
 
+// Written out, so that clauses can name the wrapped fault.
 impl From<FieldFault> for TableFault {
     ghost from_gives = { λ e r. r ≡ Fields e };
 

@@ -5,30 +5,23 @@ ghost use Rattle.faults.specs.Faults.{offending_of};
 
 use crate::layers::FitFault;
 use fields::cut::from_place;
-use fields::spot::File;
+use fields::spot::Pair;
 
 // The field at the front: to its own end, or as far as there is anything.
 fn first_field<'a>(left: &'a [u8]) -> &'a [u8]
     ensures { result.now ≡ take (field_size left.now) left.now }
 {
-    let [_, high, low, rest @ ..] = left else {
+    let [_, high, low, ..] = left else {
         return left;
     };
-    let size = *high as usize * 256 + *low as usize;
-    if size < rest.len() {
-        &left[0..3 + size]
-    } else {
-        left
-    }
+    let size = usize::from(u16::from_be_bytes([*high, *low]));
+    left.get(..3 + size).unwrap_or(left)
 }
 
 // The offending field, a part of whichever file it stands in.
-pub fn offending<'a>(fault: FitFault, venue: &'a [u8], show: &'a [u8]) -> &'a [u8]
-    ensures { result.now ≡ offending_of fault venue.now show.now }
+pub fn offending<'a>(fault: FitFault, pair: Pair<'a>) -> &'a [u8]
+    ensures { result.now ≡ offending_of fault pair.entry.venue.now pair.entry.show.now }
 {
     let spot = fault.spot();
-    match spot.file {
-        File::Venue => first_field(from_place(venue, spot.place)),
-        File::Show => first_field(from_place(show, spot.place)),
-    }
+    first_field(from_place(pair.of(spot.file), spot.place))
 }

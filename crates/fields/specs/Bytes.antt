@@ -1,6 +1,7 @@
 -- A field as the bytes have it: a tag, a length in two bytes (high byte first), and a body of that length.
 use Rattle.std.specs.Prelude.{ℕ, ◌+◌, ◌*◌, Bool, cond, List, length, take, drop, Ok, Err, Result, nat_lt, slice_index}
 use Rattle.fields.specs.declared.spot.File.{File}
+use Rattle.fields.specs.declared.spot.File.TheVariants.{Venue, Show}
 use Rattle.fields.specs.declared.spot.Spot.{Spot}
 use Rattle.fields.specs.declared.cut.Raw.{Raw}
 use Rattle.fields.specs.declared.faults.ByteFault.{ByteFault}
@@ -29,6 +30,11 @@ head_cut left = nat_lt (length left) 3
 
 abbrev pub body_cut : List ℕ → Bool
 body_cut left = nat_lt (length left) (field_size left)
+
+-- of a venue file and a show file, the one that is named
+abbrev pub of_file : File → List ℕ → List ℕ → List ℕ
+of_file Venue venue show = venue
+of_file Show venue show = show
 
 -- a point of a file: its place in bytes from the start, and what is left from there
 pub record Point : Type 0 where

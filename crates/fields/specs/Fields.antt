@@ -1,6 +1,6 @@
 -- What a field says, and what can be wrong with it. Its parts are lists of bytes here; `shown` reads them off a field
 -- of the code.
-use Rattle.std.specs.Prelude.{◌≡◌, ℕ, ◌+◌, ◌-◌, ◌%◌, ◌<◌, ◌≤◌, Bool, true, false, cond, not, ◌&&◌, ◌||◌, List, [], ◌∷◌, length, take, drop, Ok, Err, Result, ◌==◌, nat_le, nat_lt, slice_index}
+use Rattle.std.specs.Prelude.{◌≡◌, ℕ, ◌+◌, ◌-◌, ◌%◌, ◌<◌, ◌≤◌, Bool, true, false, cond, not, ◌&&◌, ◌||◌, List, [], ◌∷◌, length, take, drop, Ok, Err, Result, MatchResult, ◌==◌, nat_le, nat_lt, slice_index}
 use Rattle.fields.specs.declared.spot.File.{File}
 use Rattle.fields.specs.declared.spot.File.TheVariants.{Venue, Show}
 use Rattle.fields.specs.declared.spot.Spot.{Spot}
@@ -8,6 +8,9 @@ use Rattle.fields.specs.declared.field.Turn.{Turn}
 use Rattle.fields.specs.declared.field.Turn.TheVariants.{Head, FirstResource, MoreResources, FirstRoute, MoreRoutes, InRoute}
 use Rattle.fields.specs.declared.field.Field.{Field}
 use Rattle.fields.specs.declared.field.Field.TheVariants.{Header, Resource, Route, Position, End}
+use Rattle.fields.specs.declared.field.Tag.{Tag}
+use Rattle.fields.specs.declared.field.Tag.TheVariants as tag
+use Rattle.fields.specs.declared.field.UnknownTag.{UnknownTag}
 use Rattle.fields.specs.declared.faults.FieldFault.{FieldFault}
 use Rattle.fields.specs.declared.faults.FieldFault.TheVariants.{Bytes, UnfamiliarTag, OutOfTurn, WrongLength, OutOfRange}
 use Rattle.fields.specs.declared.faults.ByteFault.{ByteFault}
@@ -23,8 +26,13 @@ pub data Part : Type 0 where
   position : List ℕ → List ℕ → Part
   end : Part
 
+-- the kind that a file's header has to name
+abbrev pub byte_of_kind : File → ℕ
+byte_of_kind Venue = 0x56
+byte_of_kind Show = 0x53
+
 abbrev pub part_of : Field → Part
-part_of (Header k v) = header k v
+part_of (Header f v) = header (byte_of_kind f) v
 part_of (Resource c o n) = resource c o n.now
 part_of (Route n) = route n
 part_of (Position a b) = position a.now b.now
@@ -50,6 +58,18 @@ by_tag t h r o p e = cond (t == 0x01) h (cond (t == 0x10) r (cond (t == 0x20) o 
 abbrev pub familiar : ℕ → Bool
 familiar t = t == 0x01 || t == 0x10 || t == 0x20 || t == 0x21 || t == 0x7f
 
+-- the byte of each tag
+abbrev pub byte_of_tag : Tag → ℕ
+byte_of_tag tag.Header = 0x01
+byte_of_tag tag.Resource = 0x10
+byte_of_tag tag.Route = 0x20
+byte_of_tag tag.Position = 0x21
+byte_of_tag tag.End = 0x7f
+
+-- the tag of this byte, or the byte itself, which is that of none
+abbrev pub TagBy : ℕ → Result Tag UnknownTag → Type 0
+TagBy n r = MatchResult r (λ t. byte_of_tag t ≡ n) (λ e. (e.0 ≡ n) × (familiar n ≡ false))
+
 -- which tags may come
 abbrev pub allowed : Turn → ℕ → Bool
 allowed Head t = t == 0x01
@@ -58,11 +78,6 @@ allowed MoreResources t = t == 0x10 || t == 0x7f
 allowed FirstRoute t = t == 0x20
 allowed MoreRoutes t = t == 0x20 || t == 0x7f
 allowed InRoute t = t == 0x21
-
--- the kind that a file's header has to name
-abbrev pub byte_of_kind : File → ℕ
-byte_of_kind Venue = 0x56
-byte_of_kind Show = 0x53
 
 -- of a position's body: how many next positions it names, these, and the needs behind them
 abbrev pub next_count : List ℕ → ℕ
@@ -135,7 +150,7 @@ closed (Err e) = Err (Bytes e)
 
 -- the tag of a field
 abbrev pub tag_of : Field → ℕ
-tag_of (Header k v) = 0x01
+tag_of (Header f v) = 0x01
 tag_of (Resource c o n) = 0x10
 tag_of (Route n) = 0x20
 tag_of (Position a b) = 0x21
@@ -143,7 +158,7 @@ tag_of End = 0x7f
 
 -- what holds of a field's own parts
 abbrev pub Sized : Field → Type 0
-Sized (Header k v) = Unit {0}
+Sized (Header f v) = Unit {0}
 Sized (Resource c o n) = length n.now ≡ 8
 Sized (Route n) = (0 < n) × (n ≤ 128)
 Sized (Position a b) = length a.now ≤ 4

@@ -21,6 +21,7 @@ pub enum FieldFault {
     TooMany(Spot),
 }
 
+// Written out, so that clauses can name the wrapped fault.
 impl From<ByteFault> for FieldFault {
     ghost from_gives = { λ e r. r ≡ Bytes e };
 

@@ -1,25 +1,49 @@
 // The five kinds of field, each with its own parts of the file.
+ghost use Rattle.fields.specs.Fields.{TagBy};
 
-pub const HEADER: u8 = 0x01;
+use crate::spot::File;
 
-pub const RESOURCE: u8 = 0x10;
+// The byte that a field begins with.
+#[derive(Clone, Copy, PartialEq, Eq)]
+pub enum Tag {
+    Header = 0x01,
+    Resource = 0x10,
+    Route = 0x20,
+    Position = 0x21,
+    End = 0x7f,
+}
 
-pub const ROUTE: u8 = 0x20;
+// No kind of field begins with this byte.
+#[derive(Clone, Copy)]
+pub struct UnknownTag(pub u8);
 
-pub const POSITION: u8 = 0x21;
+impl TryFrom<u8> for Tag {
+    type Error = UnknownTag;
 
-pub const END: u8 = 0x7f;
+    ghost try_from_gives = { TagBy };
+
+    fn try_from(byte: u8) -> Result<Tag, UnknownTag> {
+        match byte {
+            0x01 => Ok(Tag::Header),
+            0x10 => Ok(Tag::Resource),
+            0x20 => Ok(Tag::Route),
+            0x21 => Ok(Tag::Position),
+            0x7f => Ok(Tag::End),
+            _ => Err(UnknownTag(byte)),
+        }
+    }
+}
 
 #[derive(Clone, Copy)]
 pub enum Field<'a> {
     Header {
-        kind: u8,
+        file: File,
         version: u8,
     },
     Resource {
         capacity: u16,
         order: u8,
-        name: &'a [u8],
+        name: &'a [u8; 8],
     },
     Route {
         count: u16,

@@ -1,93 +1,34 @@
 // A field's body taken apart, by its tag.
 ghost use Rattle.std.specs.Prelude.{◌≡◌, ◌+◌, true, false, not, ◌&&◌, ◌||◌, length, drop, IfOk, MatchOption, ◌==◌, nat_lt, slice_index};
-ghost use Rattle.fields.specs.Fields.{shown, familiar, allowed, byte_of_kind, judged, front, ragged, rises, next_count, next_bytes, need_bytes, field_of, Shaped, header, resource, route, position, end};
+ghost use Rattle.fields.specs.Fields.{shown, allowed, byte_of_kind, byte_of_tag, judged, front, ragged, rises, next_count, next_bytes, need_bytes, field_of, Shaped, header, resource, route, position, end};
 
 use crate::cut::Raw;
 use crate::faults::FieldFault;
-use crate::field::{END, Field, HEADER, POSITION, RESOURCE, ROUTE, Turn};
-use crate::spot::{File, Spot};
+use crate::field::{Field, Tag, Turn};
+use crate::spot::File;
 
 const MOST_NEXTS: usize = 4;
 
-fn is_familiar(tag: u8) -> bool
-    ensures { result ≡ familiar tag }
-{
-    tag == HEADER || tag == RESOURCE || tag == ROUTE || tag == POSITION || tag == END
-}
-
-fn may_come(turn: Turn, tag: u8) -> bool
-    ensures { result ≡ allowed turn tag }
+fn may_come(turn: Turn, tag: Tag) -> bool
+    ensures { result ≡ allowed turn (byte_of_tag tag) }
 {
     match turn {
-        Turn::Head => tag == HEADER,
-        Turn::FirstResource => tag == RESOURCE,
-        Turn::MoreResources => tag == RESOURCE || tag == END,
-        Turn::FirstRoute => tag == ROUTE,
-        Turn::MoreRoutes => tag == ROUTE || tag == END,
-        Turn::InRoute => tag == POSITION,
+        Turn::Head => tag == Tag::Header,
+        Turn::FirstResource => tag == Tag::Resource,
+        Turn::MoreResources => tag == Tag::Resource || tag == Tag::End,
+        Turn::FirstRoute => tag == Tag::Route,
+        Turn::MoreRoutes => tag == Tag::Route || tag == Tag::End,
+        Turn::InRoute => tag == Tag::Position,
     }
 }
 
+// The byte that a file's header names its kind by; a fault names it by another number, so neither is its one number.
 fn kind_byte(file: File) -> u8
     ensures { result ≡ byte_of_kind file }
 {
     match file {
         File::Venue => 0x56,
         File::Show => 0x53,
-    }
-}
-
-fn header_field<'a>(spot: Spot, body: &'a [u8]) -> Result<Field<'a>, FieldFault>
-    ensures value { shown result ≡ judged spot (not (length body.now == 2)) (not (slice_index body.now 0 == byte_of_kind spot.file && slice_index body.now 1 == 1)) (header (slice_index body.now 0) (slice_index body.now 1)) }
-    ensures shape { IfOk result (Shaped 0x01) }
-{
-    let [kind, version] = body else {
-        return Err(FieldFault::WrongLength(spot));
-    };
-    if *kind == kind_byte(spot.file) && *version == 1 {
-        Ok(Field::Header {
-            kind: *kind,
-            version: *version,
-        })
-    } else {
-        Err(FieldFault::OutOfRange(spot))
-    }
-}
-
-fn resource_field<'a>(spot: Spot, body: &'a [u8]) -> Result<Field<'a>, FieldFault>
-    ensures value { shown result ≡ judged spot (not (length body.now == 11)) (front body.now == 0) (resource (front body.now) (slice_index body.now 2) (drop 3 body.now)) }
-    ensures shape { IfOk result (Shaped 0x10) }
-{
-    match body {
-        [high, low, order, ..] if body.len() == 11 => {
-            let capacity = *high as u16 * 256 + *low as u16;
-            let (_, name) = body.split_at(3);
-            if capacity == 0 {
-                Err(FieldFault::OutOfRange(spot))
-            } else {
-                Ok(Field::Resource {
-                    capacity,
-                    order: *order,
-                    name,
-                })
-            }
-        }
-        _ => Err(FieldFault::WrongLength(spot)),
-    }
-}
-
-fn route_field<'a>(spot: Spot, body: &'a [u8]) -> Result<Field<'a>, FieldFault>
-    ensures value { shown result ≡ judged spot (not (length body.now == 2)) (front body.now == 0 || nat_lt 128 (front body.now)) (route (front body.now)) }
-    ensures shape { IfOk result (Shaped 0x20) }
-{
-    let [high, low] = body else {
-        return Err(FieldFault::WrongLength(spot));
-    };
-    let count = *high as u16 * 256 + *low as u16;
-    if count == 0 || count > 128 {
-        Err(FieldFault::OutOfRange(spot))
-    } else {
-        Ok(Field::Route { count })
     }
 }
 
@@ -98,8 +39,8 @@ fn needs_rise(needs: &[u8]) -> bool
     let mut least: u16 = 0;
     let mut left = needs;
     while let [number, high, low, more @ ..] = left {
-        let number = *number as u16;
-        let amount = *high as u16 * 256 + *low as u16;
+        let number = u16::from(*number);
+        let amount = u16::from_be_bytes([*high, *low]);
         if number < least || amount == 0 {
             return false;
         }
@@ -116,7 +57,7 @@ fn position_parts<'a>(body: &'a [u8]) -> Option<(&'a [u8], &'a [u8])>
     let [count, rest @ ..] = body else {
         return None;
     };
-    let (nexts, needs) = rest.split_at_checked(*count as usize)?;
+    let (nexts, needs) = rest.split_at_checked(usize::from(*count))?;
     if needs.len() % 3 == 0 {
         Some((nexts, needs))
     } else {
@@ -124,46 +65,96 @@ fn position_parts<'a>(body: &'a [u8]) -> Option<(&'a [u8], &'a [u8])>
     }
 }
 
-fn position_field<'a>(spot: Spot, body: &'a [u8]) -> Result<Field<'a>, FieldFault>
-    ensures value { shown result ≡ judged spot (ragged body.now) (nat_lt 4 (next_count body.now) || not (rises 0 (need_bytes body.now))) (position (next_bytes body.now) (need_bytes body.now)) }
-    ensures shape { IfOk result (Shaped 0x21) }
-{
-    let Some((nexts, needs)) = position_parts(body) else {
-        return Err(FieldFault::WrongLength(spot));
-    };
-    if nexts.len() <= MOST_NEXTS && needs_rise(needs) {
-        Ok(Field::Position { nexts, needs })
-    } else {
-        Err(FieldFault::OutOfRange(spot))
+impl<'a> Raw<'a> {
+    fn header(self) -> Result<Field<'a>, FieldFault>
+        ensures value { shown result ≡ judged self.entry.spot (not (length self.entry.body.now == 2)) (not (slice_index self.entry.body.now 0 == byte_of_kind self.entry.spot.file && slice_index self.entry.body.now 1 == 1)) (header (slice_index self.entry.body.now 0) (slice_index self.entry.body.now 1)) }
+        ensures shape { IfOk result (Shaped 0x01) }
+    {
+        let [kind, version] = self.body else {
+            return Err(FieldFault::WrongLength(self.spot));
+        };
+        if *kind == kind_byte(self.spot.file) && *version == 1 {
+            Ok(Field::Header {
+                file: self.spot.file,
+                version: *version,
+            })
+        } else {
+            Err(FieldFault::OutOfRange(self.spot))
+        }
     }
-}
 
-fn end_field<'a>(spot: Spot, body: &'a [u8]) -> Result<Field<'a>, FieldFault>
-    ensures value { shown result ≡ judged spot (not (length body.now == 0)) false end }
-    ensures shape { IfOk result (Shaped 0x7f) }
-{
-    if body.is_empty() {
-        Ok(Field::End)
-    } else {
-        Err(FieldFault::WrongLength(spot))
+    fn resource(self) -> Result<Field<'a>, FieldFault>
+        ensures value { shown result ≡ judged self.entry.spot (not (length self.entry.body.now == 11)) (front self.entry.body.now == 0) (resource (front self.entry.body.now) (slice_index self.entry.body.now 2) (drop 3 self.entry.body.now)) }
+        ensures shape { IfOk result (Shaped 0x10) }
+    {
+        let [high, low, order, rest @ ..] = self.body else {
+            return Err(FieldFault::WrongLength(self.spot));
+        };
+        let name = <&[u8; 8]>::try_from(rest).map_err(|_| FieldFault::WrongLength(self.spot))?;
+        let capacity = u16::from_be_bytes([*high, *low]);
+        if capacity == 0 {
+            return Err(FieldFault::OutOfRange(self.spot));
+        }
+        Ok(Field::Resource {
+            capacity,
+            order: *order,
+            name,
+        })
     }
-}
 
-pub fn field_of<'a>(spot: Spot, turn: Turn, raw: Raw<'a>) -> Result<Field<'a>, FieldFault>
-    ensures value { shown result ≡ field_of spot turn raw.entry.tag raw.entry.body.now }
-    ensures shape { IfOk result (Shaped raw.entry.tag) }
-{
-    if !is_familiar(raw.tag) {
-        return Err(FieldFault::UnfamiliarTag(spot));
+    fn route(self) -> Result<Field<'a>, FieldFault>
+        ensures value { shown result ≡ judged self.entry.spot (not (length self.entry.body.now == 2)) (front self.entry.body.now == 0 || nat_lt 128 (front self.entry.body.now)) (route (front self.entry.body.now)) }
+        ensures shape { IfOk result (Shaped 0x20) }
+    {
+        let [high, low] = self.body else {
+            return Err(FieldFault::WrongLength(self.spot));
+        };
+        let count = u16::from_be_bytes([*high, *low]);
+        if count == 0 || count > 128 {
+            Err(FieldFault::OutOfRange(self.spot))
+        } else {
+            Ok(Field::Route { count })
+        }
     }
-    if !may_come(turn, raw.tag) {
-        return Err(FieldFault::OutOfTurn(spot));
+
+    fn position(self) -> Result<Field<'a>, FieldFault>
+        ensures value { shown result ≡ judged self.entry.spot (ragged self.entry.body.now) (nat_lt 4 (next_count self.entry.body.now) || not (rises 0 (need_bytes self.entry.body.now))) (position (next_bytes self.entry.body.now) (need_bytes self.entry.body.now)) }
+        ensures shape { IfOk result (Shaped 0x21) }
+    {
+        let (nexts, needs) = position_parts(self.body).ok_or(FieldFault::WrongLength(self.spot))?;
+        if nexts.len() <= MOST_NEXTS && needs_rise(needs) {
+            Ok(Field::Position { nexts, needs })
+        } else {
+            Err(FieldFault::OutOfRange(self.spot))
+        }
     }
-    match raw.tag {
-        HEADER => header_field(spot, raw.body),
-        RESOURCE => resource_field(spot, raw.body),
-        ROUTE => route_field(spot, raw.body),
-        POSITION => position_field(spot, raw.body),
-        _ => end_field(spot, raw.body),
+
+    fn end(self) -> Result<Field<'a>, FieldFault>
+        ensures value { shown result ≡ judged self.entry.spot (not (length self.entry.body.now == 0)) false end }
+        ensures shape { IfOk result (Shaped 0x7f) }
+    {
+        if self.body.is_empty() {
+            Ok(Field::End)
+        } else {
+            Err(FieldFault::WrongLength(self.spot))
+        }
+    }
+
+    // What the field says, where `turn` says which may come.
+    pub fn field(self, turn: Turn) -> Result<Field<'a>, FieldFault>
+        ensures value { shown result ≡ field_of self.entry.spot turn self.entry.tag self.entry.body.now }
+        ensures shape { IfOk result (Shaped self.entry.tag) }
+    {
+        let tag = Tag::try_from(self.tag).map_err(|_| FieldFault::UnfamiliarTag(self.spot))?;
+        if !may_come(turn, tag) {
+            return Err(FieldFault::OutOfTurn(self.spot));
+        }
+        match tag {
+            Tag::Header => self.header(),
+            Tag::Resource => self.resource(),
+            Tag::Route => self.route(),
+            Tag::Position => self.position(),
+            Tag::End => self.end(),
+        }
     }
 }

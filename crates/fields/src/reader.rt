@@ -6,7 +6,6 @@ ghost use Rattle.fields.specs.Fields.{shown, shown_here, point_of, next_field, f
 use crate::cut::{cut, from_place};
 use crate::faults::{ByteFault, FieldFault};
 use crate::field::{Field, Turn};
-use crate::parts::field_of;
 use crate::spot::{File, Spot};
 
 #[derive(Drop)]
@@ -30,17 +29,10 @@ impl<'a> FieldReader<'a> {
     pub fn spot(&self) -> Spot
         ensures { result ≡ spot_at (point_of self.now) }
     {
-        match from_place(self.bytes, self.place) {
-            [byte, ..] => Spot {
-                file: self.file,
-                place: self.place,
-                byte: *byte,
-            },
-            [] => Spot {
-                file: self.file,
-                place: self.place,
-                byte: 0,
-            },
+        Spot {
+            file: self.file,
+            place: self.place,
+            byte: self.bytes.get(self.place).copied().unwrap_or(0),
         }
     }
 
@@ -52,7 +44,7 @@ impl<'a> FieldReader<'a> {
     {
         let spot = self.spot();
         let raw = cut(spot, from_place(self.bytes, self.place))?;
-        let field = field_of(spot, turn, raw)?;
+        let field = raw.field(turn)?;
         let size = 3 + raw.body.len();
         Ok((field, self.place + size))
     }
@@ -79,7 +71,7 @@ impl<'a> FieldReader<'a> {
         }
     }
 
-    // Says so as the fields' layer does.
+    // The same, with a fault of the fields' layer: a caller of either layer has its own kind of fault.
     pub fn close(&self) -> Result<(), FieldFault>
         ensures { result ≡ closed (finished (spot_at (point_of self.now)) (point_of self.now).left) }
     {

@@ -3,7 +3,9 @@ pub mod Ways
 pub mod Lowest
 pub mod Lengths
 pub mod Claimed
-pub mod Bounds
+pub mod Entries
 pub mod Copies
+pub mod Made
+pub mod Bounds
 pub mod Lawful
 pub mod Past

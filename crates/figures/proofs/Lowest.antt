@@ -1,5 +1,5 @@
 -- The lowest order, resource by resource.
-use Rattle.std.proofs.Common.{◌≡◌, ℕ, zero, suc, ◌+◌, ◌<◌, ◌≤◌, min, List, [], ◌∷◌, sym, refl, ⊎_elim, add-one, arith}
+use Rattle.std.proofs.Common.{◌≡◌, ℕ, zero, suc, ◌<◌, ◌≤◌, List, [], ◌∷◌, sym, refl, ⊎_elim, arith}
 use Rattle.std.proofs.lemmas.Bool.Decides.{nat_tests}
 use Rattle.std.proofs.lemmas.Bool.{cases_lt}
 use Rattle.tables.specs.Plan.{Plan, kinds, order, need}
@@ -7,12 +7,6 @@ use Rattle.figures.specs.Way.{along, after, figure}
 use Rattle.figures.specs.Claims.{lowest_of, lowest}
 
 module _ (t : Plan) (p : ℕ) where
-  pub lowest-none : (r : ℕ) → need t p r ≡ 0 → lowest_of t p (r + 1) ≡ lowest_of t p r
-  lowest-none r e = rw add-one (grind (arith, nat_tests))
-
-  pub lowest-some : (r : ℕ) → 0 < need t p r → lowest_of t p (r + 1) ≡ min (order t r) (lowest_of t p r)
-  lowest-some r h = rw add-one (grind (arith, nat_tests))
-
   -- the lowest order is at most that of each resource needed
   lowest-le : (n r : ℕ) → r < n → 0 < need t p r → lowest_of t p n ≤ order t r
   lowest-le zero r h a = absurd (omega arith)

@@ -1,9 +1,8 @@
 -- The lowest order of a position, its claim on a resource with the position that sets it, and its peak need.
-use Rattle.std.specs.Prelude.{◌≡◌, ℕ, zero, suc, ◌<◌, ◌≤◌, min, max, Bool, cond, List, [], ◌∷◌, length, ◌==◌, nat_lt, slice_index, slice_index_or, get_or}
+use Rattle.std.specs.Prelude.{◌≡◌, ℕ, zero, suc, ◌<◌, ◌≤◌, min, max, Bool, cond, List, [], ◌∷◌, length, ◌==◌, nat_lt, slice_index, slice_index_or}
 use Rattle.tables.specs.Plan.{Plan, kinds, count, order, need}
 use Rattle.figures.specs.declared.claim.Claim.{Claim}
-use Rattle.figures.specs.declared.claim.ClaimRow.{ClaimRow}
-use Rattle.figures.specs.declared.claim.PeakRow.{PeakRow}
+use Rattle.figures.specs.declared.claim.ResourceFigures.{ResourceFigures}
 use Rattle.figures.specs.Way.{along, after, figure}
 
 -- the least order among the first n resources that p needs, 256 if it needs none
@@ -62,28 +61,30 @@ claim_of t r p = made (claim t r p) (setter t r p)
 abbrev pub peak : Plan → ℕ → ℕ → ℕ
 peak t r p = figure t (λ q. need t q r) (λ q next. max (need t q r) next) p
 
--- what rows of claims, one a resource, have for r and p
-abbrev pub claim_in : List ClaimRow → ℕ → ℕ → Claim
-claim_in rows r p = slice_index_or (get_or rows r (record { items = [] })).items p (made 0 0)
+-- the figures of resource r, of a list with those of each
+abbrev pub of_resource : List ResourceFigures → ℕ → ResourceFigures
+of_resource rows r = slice_index_or rows r (record { claims = []; peaks = [] })
 
--- the first n rows have the claims of each position, with the positions that set them
-abbrev pub RowsHeld : Plan → ℕ → List ClaimRow → Type 0
-RowsHeld t n rows = (r p : ℕ) → r < n → p < count t → claim_in rows r p ≡ claim_of t r p
+-- the claim that they have for r and p
+abbrev pub claim_in : List ResourceFigures → ℕ → ℕ → Claim
+claim_in rows r p = slice_index_or (of_resource rows r).claims p (made 0 0)
 
--- the rows have the claims of each position, and the positions that set them
-abbrev pub AmountsHeld : Plan → List ClaimRow → Type 0
-AmountsHeld t rows = (r p : ℕ) → (r < kinds t) × (p < count t) → (claim_in rows r p).amount ≡ claim t r p
+-- all 16 have the claims of each position, and the positions that set them
+abbrev pub AmountsHeld : Plan → List ResourceFigures → Type 0
+AmountsHeld t rows = (r p : ℕ) → (r < 16) × (p < count t) → (claim_in rows r p).amount ≡ claim t r p
 
-abbrev pub SettersHeld : Plan → List ClaimRow → Type 0
-SettersHeld t rows = (r p : ℕ) → (r < kinds t) × (p < count t) → (claim_in rows r p).position ≡ setter t r p
+abbrev pub SettersHeld : Plan → List ResourceFigures → Type 0
+SettersHeld t rows = (r p : ℕ) → (r < 16) × (p < count t) → (claim_in rows r p).position ≡ setter t r p
 
--- what rows of peak needs, one a resource, have for r and p
-abbrev pub peak_in : List PeakRow → ℕ → ℕ → ℕ
-peak_in rows r p = slice_index (slice_index_or rows r (record { items = [] })).items p
+-- the peak need that they have for r and p
+abbrev pub peak_in : List ResourceFigures → ℕ → ℕ → ℕ
+peak_in rows r p = slice_index (of_resource rows r).peaks p
 
--- the first n rows have the peak needs of each position
-abbrev pub PeaksIn : Plan → ℕ → List PeakRow → Type 0
-PeaksIn t n rows = (r p : ℕ) → r < n → p < count t → peak_in rows r p ≡ peak t r p
+-- all 16 have the peak needs of each position
+abbrev pub PeaksHeld : Plan → List ResourceFigures → Type 0
+PeaksHeld t rows = (r p : ℕ) → (r < 16) × (p < count t) → peak_in rows r p ≡ peak t r p
 
-abbrev pub PeaksHeld : Plan → List PeakRow → Type 0
-PeaksHeld t rows = (r p : ℕ) → (r < kinds t) × (p < count t) → peak_in rows r p ≡ peak t r p
+-- these are the figures of r: the claim and the peak need of each position
+pub record FiguresHeld (t : Plan) (r : ℕ) (held : ResourceFigures) : Type 0 where
+  pub claims : (p : ℕ) → p < count t → slice_index_or held.claims p (made 0 0) ≡ claim_of t r p
+  pub peaks : (p : ℕ) → p < count t → slice_index held.peaks p ≡ peak t r p

@@ -1,5 +1,5 @@
 -- What a sheet answers, and what it leaves in the row.
-use Rattle.std.specs.Prelude.{◌≡◌, ℕ, ◌<◌, ◌≤◌, ◌⊎◌, List, ◌++◌, length, take, drop, Ok, Err, Result, slice_index_or}
+use Rattle.std.specs.Prelude.{◌≡◌, ℕ, ◌<◌, ◌≤◌, ◌⊎◌, List, ◌++◌, length, drop, Ok, Err, Result, slice_index_or}
 use Rattle.refusals.specs.declared.Refusal.{Refusal}
 use Rattle.refusals.specs.declared.Refusal.TheVariants.{NoSuchResource, RowTooShort}
 use Rattle.tables.specs.Plan.{Plan, kinds, count}
@@ -15,7 +15,7 @@ Sheet {V} t f before (Err e) after = (length before < count t) × (e ≡ RowTooS
 abbrev pub ClaimSheet : Plan → ℕ → List Claim → Result (Unit {0}) Refusal → List Claim → Type 0
 ClaimSheet t r before answer after = ((kinds t ≤ r) × (answer ≡ Err NoSuchResource) × (after ≡ before)) ⊎ ((r < kinds t) × Sheet t (claim_of t r) before answer after)
 
--- the first n of xs at the front of a row, or the row too short and as it was
-abbrev pub Copied : {V : Type 0} → List V → ℕ → List V → Result (Unit {0}) Refusal → List V → Type 0
-Copied xs n before (Ok _) after = (n ≤ length before) × (after ≡ take n xs ++ drop n before)
-Copied xs n before (Err e) after = (length before < n) × (e ≡ RowTooShort) × (after ≡ before)
+-- xs at the front of a row, or the row too short and as it was
+abbrev pub Copied : {V : Type 0} → List V → List V → Result (Unit {0}) Refusal → List V → Type 0
+Copied xs before (Ok _) after = (length xs ≤ length before) × (after ≡ xs ++ drop (length xs) before)
+Copied xs before (Err e) after = (length before < length xs) × (e ≡ RowTooShort) × (after ≡ before)

@@ -5,14 +5,9 @@ pub struct Claim {
     pub position: u16,
 }
 
-// The claims on one resource, by position.
+// The figures of one resource, by position: the claims on it, and the peak needs of it along the ways home. Two rows, since each is filled by the scan and a sheet copies one.
 #[derive(Clone, Copy)]
-pub struct ClaimRow {
-    pub items: [Claim; 128],
-}
-
-// The peak needs of one resource along the ways home, by position.
-#[derive(Clone, Copy)]
-pub struct PeakRow {
-    pub items: [u16; 128],
+pub struct ResourceFigures {
+    pub claims: [Claim; 128],
+    pub peaks: [u16; 128],
 }

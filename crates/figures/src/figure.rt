@@ -6,7 +6,7 @@ ghost use Rattle.figures.specs.Way.{main, AtNext, Filled};
 use crate::reads::{main_next, position_count};
 use tables::tables::Tables;
 
-// A kind of figure: its value at a last position, and before a known main next.
+// A kind of figure: its value at a last position, and before a known main next. A kind is of no one show, so each question is handed tables and position.
 pub trait Figure {
     type Value: Copy;
 
@@ -30,7 +30,7 @@ pub trait Figure {
         ensures { result ≡ leading self.now (plan tables.now) p next };
 }
 
-// Works back from the last position, and leaves the row's entries past it.
+// Works back from the last position, and leaves the row's entries past it. By index, since it reads the main next's entry of the row that it writes.
 pub fn fill<F: Figure>(kind: &F, tables: &Tables, row: &mut [F::Value])
     requires suits { F.suits kind.now (plan tables.now) }
     requires long { count (plan tables.now) ≤ length row.old }

@@ -62,17 +62,18 @@ pub struct Claims<'a> {
 }
 
 impl Claims<'_> {
-    // The claim of p, if that of its main next is `next`.
+    // The claim of p, if that of its main next is `next`. A position's number fits 16 bits.
     fn with(&self, tables: &Tables, p: usize, next: Claim) -> Claim
         requires short { p < 65536 }
         requires within { p < length self.now.lowest.now }
         requires known { slice_index self.now.lowest.now p ≡ lowest (plan tables.now) p }
         ensures { result ≡ claim_leading (plan tables.now) self.now.resource p next }
     {
+        let position = p as u16;
         if u16::from(tables.order(self.resource)) < self.lowest[p] {
             return Claim {
                 amount: 0,
-                position: p as u16,
+                position,
             };
         }
         let need = tables.need(p, self.resource);
@@ -81,7 +82,7 @@ impl Claims<'_> {
         }
         Claim {
             amount: need,
-            position: p as u16,
+            position,
         }
     }
 }

@@ -6,48 +6,27 @@ ghost use Rattle.figures.specs.Claims.{lowest};
 
 use tables::tables::Tables;
 
-#[derive(Drop)]
-struct Sizes {
-    resources: usize,
-    positions: usize,
-}
-
-fn sizes_of(tables: &Tables) -> Sizes
-    ensures resources { result.resources ≡ kinds (plan tables.now) }
-    ensures positions { result.positions ≡ count (plan tables.now) }
-    ensures sixteen { result.resources ≤ 16 }
-    ensures few { result.positions ≤ 128 }
-{
-    Sizes {
-        resources: tables.resources().len(),
-        positions: tables.positions().len(),
-    }
-}
-
 pub fn position_count(tables: &Tables) -> usize
     ensures is { result ≡ count (plan tables.now) }
     ensures few { result ≤ 128 }
 {
-    sizes_of(tables).positions
+    tables.positions().len()
 }
 
 pub fn resource_count(tables: &Tables) -> usize
     ensures is { result ≡ kinds (plan tables.now) }
     ensures few { result ≤ 16 }
 {
-    sizes_of(tables).resources
+    tables.resources().len()
 }
 
 pub fn main_next(tables: &Tables, p: usize) -> Option<usize>
     ensures { result ≡ main (plan tables.now) p }
 {
-    match tables.nexts(p).first() {
-        Some(q) => Some(*q as usize),
-        None => None,
-    }
+    tables.nexts(p).first().map(|q| usize::from(*q))
 }
 
-// The lowest order of a position that needs nothing, above every order.
+// The lowest order of a position that needs nothing: a number above every order, since orders are compared with it.
 pub const NO_ORDER: u16 = 256;
 
 // The least order among the resources that p needs.
@@ -55,9 +34,9 @@ pub fn lowest_order(tables: &Tables, p: usize) -> u16
     ensures { result ≡ lowest (plan tables.now) p }
 {
     let mut least = NO_ORDER;
-    for r in 0..resource_count(tables) {
+    for (r, resource) in tables.resources().iter().enumerate() {
         if tables.need(p, r) > 0 {
-            least = least.min(u16::from(tables.order(r)));
+            least = least.min(u16::from(resource.order));
         }
     }
     least

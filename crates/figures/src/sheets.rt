@@ -1,23 +1,21 @@
 // The sheets: a figure of each position, put into a given row.
-ghost use Rattle.std.specs.Prelude.{◌≤◌, length};
 ghost use Rattle.tables.specs.Plan.{plan};
 ghost use Rattle.figures.specs.Way.{way_length};
 ghost use Rattle.figures.specs.Sheets.{Sheet, ClaimSheet, Copied};
 
 use crate::claim::Claim;
-use crate::reads::{position_count, resource_count};
+use crate::reads::resource_count;
 use crate::stage::Stage;
 use refusals::Refusal;
 
-// Copies the first `count` figures to the front of the row.
-fn copy<T: Copy>(figures: &[T], count: usize, row: &mut [T]) -> Result<(), Refusal>
-    requires { count ≤ length figures.now }
-    ensures { Copied figures.now count row.old result row.new }
+// Copies the figures to the front of the row. It answers no length and refuses with a number of its own, unlike what puts a text into a space.
+fn copy<T: Copy>(figures: &[T], row: &mut [T]) -> Result<(), Refusal>
+    ensures { Copied figures.now row.old result row.new }
 {
-    if row.len() < count {
+    if row.len() < figures.len() {
         return Err(Refusal::RowTooShort);
     }
-    row[0..count].copy_from_slice(&figures[0..count]);
+    row[..figures.len()].copy_from_slice(figures);
     Ok(())
 }
 
@@ -26,7 +24,7 @@ impl Stage {
     pub fn length_sheet(&self, row: &mut [u16]) -> Result<(), Refusal>
         ensures { Sheet (plan self.now.tables) (way_length (plan self.now.tables)) row.old result row.new }
     {
-        copy(&self.lengths, position_count(&self.tables), row)
+        copy(self.used(&self.lengths), row)
     }
 
     // Writes each position's claim on a resource with the position that sets it, and leaves the entries past the last position.
@@ -36,10 +34,6 @@ impl Stage {
         if resource >= resource_count(&self.tables) {
             return Err(Refusal::NoSuchResource);
         }
-        copy(
-            &self.claims[resource].items,
-            position_count(&self.tables),
-            row,
-        )
+        copy(self.used(&self.resources[resource].claims), row)
     }
 }

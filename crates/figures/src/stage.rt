@@ -1,74 +1,61 @@
 // A pair of files with its figures, worked out once.
-ghost use Rattle.std.specs.Prelude.{◌≡◌, ◌≤◌, length};
-ghost use Rattle.tables.specs.Plan.{plan, kinds};
-ghost use Rattle.figures.specs.Way.{LengthsHeld};
-ghost use Rattle.figures.specs.Claims.{LowestHeld, LowestOrders, RowsHeld, AmountsHeld, SettersHeld, PeaksIn, PeaksHeld};
+ghost use Rattle.std.specs.Prelude.{◌≡◌, ℕ, ◌<◌, replicate};
+ghost use Rattle.tables.specs.Plan.{plan};
+ghost use Rattle.figures.specs.Way.{LengthsHeld, Filled};
+ghost use Rattle.figures.specs.Claims.{LowestHeld, LowestOrders, of_resource, FiguresHeld, AmountsHeld, SettersHeld, PeaksHeld};
 ghost use Rattle.figures.specs.Laws.{Laws};
 
-use crate::claim::{Claim, ClaimRow, PeakRow};
-use crate::figure::fill;
+use crate::claim::{Claim, ResourceFigures};
+use crate::figure::{Figure, fill};
 use crate::kinds::{Claims, Lengths, Lowest, Peaks};
-use crate::reads::resource_count;
+use std::array;
 use tables::tables::Tables;
 
+// A row of lengths and one of lowest orders: each is filled by the one scan, and a sheet copies one.
 #[derive(Drop)]
 pub struct Stage {
     pub tables: Tables,
     pub lengths: [u16; 128],
     pub lowest: [u16; 128],
-    pub claims: [ClaimRow; 16],
-    pub peaks: [PeakRow; 16],
+    pub resources: [ResourceFigures; 16],
     ghost lengths_held: { LengthsHeld (plan tables) lengths },
     ghost lowest_held: { LowestHeld (plan tables) lowest },
-    ghost amounts_held: { AmountsHeld (plan tables) claims },
-    ghost setters_held: { SettersHeld (plan tables) claims },
-    ghost peaks_held: { PeaksHeld (plan tables) peaks },
+    ghost amounts_held: { AmountsHeld (plan tables) resources },
+    ghost setters_held: { SettersHeld (plan tables) resources },
+    ghost peaks_held: { PeaksHeld (plan tables) resources },
 }
 
-// The length of each position's way home.
-fn lengths_of(tables: &Tables) -> [u16; 128]
-    ensures { LengthsHeld (plan tables.now) result }
+// A row with the figure of each position.
+fn row_of<F: Figure>(kind: &F, tables: &Tables, blank: F::Value) -> [F::Value; 128]
+    requires { F.suits kind.now (plan tables.now) }
+    ensures { Filled (plan tables.now) (F.ending kind.now (plan tables.now)) (F.leading kind.now (plan tables.now)) (replicate 128 blank) result }
 {
-    let mut row = [0u16; 128];
-    fill(&Lengths, tables, &mut row);
+    let mut row = [blank; 128];
+    fill(kind, tables, &mut row);
     row
 }
 
-// The lowest order of each position.
-fn lowest_of(tables: &Tables) -> [u16; 128]
-    ensures { LowestHeld (plan tables.now) result }
+// The figures of one resource, over the lowest orders of the positions.
+fn figures_of(resource: usize, tables: &Tables, lowest: &[u16; 128]) -> ResourceFigures
+    requires { LowestOrders (plan tables.now) lowest.now }
+    ensures { FiguresHeld (plan tables.now) resource result }
 {
-    let mut row = [0u16; 128];
-    fill(&Lowest, tables, &mut row);
-    row
-}
-
-// Works out the claims on each resource.
-fn fill_claims(tables: &Tables, lowest: &[u16], rows: &mut [ClaimRow])
-    requires lowest { LowestOrders (plan tables.now) lowest.now }
-    requires long { kinds (plan tables.now) ≤ length rows.old }
-    ensures { RowsHeld (plan tables.now) (kinds (plan tables.now)) rows.new }
-{
-    for r in 0..resource_count(tables) {
-        fill(
-            &Claims {
-                resource: r,
-                lowest,
-            },
-            tables,
-            &mut rows[r].items,
-        );
+    let unset = Claim {
+        amount: 0,
+        position: 0,
+    };
+    ResourceFigures {
+        claims: row_of(&Claims { resource, lowest }, tables, unset),
+        peaks: row_of(&Peaks { resource }, tables, 0),
     }
 }
 
-// Works out the peak needs of each resource.
-fn fill_peaks(tables: &Tables, rows: &mut [PeakRow])
-    requires { kinds (plan tables.now) ≤ length rows.old }
-    ensures { PeaksIn (plan tables.now) (kinds (plan tables.now)) rows.new }
+// The figures of each resource.
+fn resources_of(tables: &Tables, lowest: &[u16; 128]) -> [ResourceFigures; 16]
+    requires { LowestOrders (plan tables.now) lowest.now }
+    ensures { (r : ℕ) → r < 16 → FiguresHeld (plan tables.now) r (of_resource result r) }
 {
-    for resource in 0..resource_count(tables) {
-        fill(&Peaks { resource }, tables, &mut rows[resource].items);
-    }
+    array::from_fn(|resource| figures_of(resource, tables, lowest))
 }
 
 impl Stage {
@@ -77,23 +64,14 @@ impl Stage {
         ensures same { result.tables ≡ tables }
         ensures laws { Laws (plan result.tables) }
     {
-        let lengths = lengths_of(&tables);
-        let lowest = lowest_of(&tables);
-        let mut claims = [ClaimRow {
-            items: [Claim {
-                amount: 0,
-                position: 0,
-            }; 128],
-        }; 16];
-        fill_claims(&tables, &lowest, &mut claims);
-        let mut peaks = [PeakRow { items: [0; 128] }; 16];
-        fill_peaks(&tables, &mut peaks);
+        let lengths = row_of(&Lengths, &tables, 0);
+        let lowest = row_of(&Lowest, &tables, 0);
+        let resources = resources_of(&tables, &lowest);
         Stage {
             tables,
             lengths,
             lowest,
-            claims,
-            peaks,
+            resources,
         }
     }
 }

@@ -1,5 +1,5 @@
 -- What the readers of one position give: the procedure's own steps, which the laws of reading rest on.
-use Rattle.std.specs.Prelude.{◌≡◌, ℕ, cond, List, Ok, Err, Result}
+use Rattle.std.specs.Prelude.{◌≡◌, ℕ, ◌<◌, Bool, cond, List, Ok, Err, Result}
 use Rattle.fields.specs.Bytes.{Point}
 use Rattle.fields.specs.Fields.{Part, header, resource, route, position, end, part_of}
 use Rattle.fields.specs.declared.spot.Spot.{Spot}
@@ -63,3 +63,7 @@ field_as (Err e) o = carried_as e o
 abbrev pub closed_as : Result (Unit {0}) TableFault → Result (Unit {0}) FieldFault → Type 0
 closed_as (Ok u) o = o ≡ Ok u
 closed_as (Err e) o = carried_as e o
+
+-- the calls of a test of two numbers, of one byte and of two bytes, answer as `p` does
+abbrev pub Tests : (ℕ × ℕ → Bool) → (ℕ → ℕ → Bool → Type 0) → Type 0
+Tests p calls = (n a : ℕ) (b : Bool) → n < 256 → a < 65536 → calls n a b → b ≡ p (n, a)

@@ -5,4 +5,5 @@ mod needs;
 pub mod pair;
 mod position;
 mod show;
+mod turns;
 mod venue;

@@ -1,5 +1,5 @@
 // Both files at once, the venue file entirely first.
-ghost use Rattle.std.specs.Prelude.{◌≡◌, ℕ, ◌≤◌, List, IfOk, IfErr, vec_len, vec_capacity};
+ghost use Rattle.std.specs.Prelude.{◌≡◌, ℕ, List, IfOk, IfErr};
 ghost use Rattle.tables.specs.Contents.{Contents, contents};
 ghost use Rattle.layout.specs.Layout.{venue_file};
 ghost use Rattle.layout.specs.Reading.{FaultOf};
@@ -8,39 +8,28 @@ ghost use Rattle.files.specs.Pairs.{Laid, Holds};
 use crate::show::read_show;
 use crate::venue::read_venue;
 use faults::layers::FitFault;
-use tables::position::Position;
-use tables::reserve::Reserve;
-use tables::route::Route;
+use fields::spot::Pair;
+use tables::reserve::{Reserve, ShowReserve};
 use tables::tables::Tables;
 use tables::venue::Venue;
 
 // The venue with its show, which is read in the memory that was reserved for it.
-fn with_show(
-    venue: Venue,
-    routes: Vec<Route>,
-    positions: Vec<Position>,
-    show: &[u8],
-) -> Result<Tables, FitFault>
-    requires { (vec_len routes ≡ 0) × ((vec_len positions ≡ 0) × ((16 ≤ vec_capacity routes) × (128 ≤ vec_capacity positions))) }
+fn with_show(venue: Venue, reserve: ShowReserve, show: &[u8]) -> Result<Tables, FitFault>
     ensures only { (file : List ℕ) → file ≡ venue_file venue.resources.items → IfOk result (λ t. Laid file show.now (contents t)) }
     ensures every { (file : List ℕ) → file ≡ venue_file venue.resources.items → (c : Contents) → Laid file show.now c → Holds result c }
     ensures fault { (file : List ℕ) → file ≡ venue_file venue.resources.items → IfErr result (FaultOf file show.now) }
 {
-    let show = read_show(venue.resources.as_slice(), routes, positions, show)?;
+    let show = read_show(venue.resources.as_slice(), reserve, show)?;
     Ok(Tables { venue, show })
 }
 
-// The tables of the two files, in the memory that was reserved, or the fault of the first bad field.
-pub fn read(reserve: Reserve, venue: &[u8], show: &[u8]) -> Result<Tables, FitFault>
-    ensures only { IfOk result (λ t. Laid venue.now show.now (contents t)) }
-    ensures every { (c : Contents) → Laid venue.now show.now c → Holds result c }
-    ensures fault { IfErr result (FaultOf venue.now show.now) }
+// The tables of the two files, which are lent, in the memory that was reserved, which is used up, or the fault of the first bad field.
+pub fn read(reserve: Reserve, pair: Pair<'_>) -> Result<Tables, FitFault>
+    ensures only { IfOk result (λ t. Laid pair.entry.venue.now pair.entry.show.now (contents t)) }
+    ensures every { (c : Contents) → Laid pair.entry.venue.now pair.entry.show.now c → Holds result c }
+    ensures fault { IfErr result (FaultOf pair.entry.venue.now pair.entry.show.now) }
 {
-    let Reserve {
-        resources,
-        routes,
-        positions,
-    } = reserve;
-    let venue = read_venue(resources, venue)?;
-    with_show(venue, routes, positions, show)
+    let Reserve { venue, show } = reserve;
+    let venue = read_venue(venue, pair.venue)?;
+    with_show(venue, show, pair.show)
 }

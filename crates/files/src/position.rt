@@ -20,56 +20,54 @@ pub struct Parts<'a> {
     pub needs: &'a [u8],
 }
 
+// The number of a position, and where its route ends.
+#[derive(Clone, Copy)]
+pub(crate) struct Slot {
+    pub own: usize,
+    pub end: usize,
+}
+
 fn is_named(next: u8, others: &[u8]) -> bool
     ensures { result ≡ has next others.now }
 {
-    let mut left = others;
-    while let [first, more @ ..] = left {
-        if *first == next {
-            return true;
-        }
-        left = more;
+    others.contains(&next)
+}
+
+impl Slot {
+    // Whether a next position is beyond its own, and within the route.
+    fn is_ahead(self, next: u8) -> bool
+        ensures { result ≡ (nat_lt self.own next && nat_lt next self.end) }
+    {
+        let n = usize::from(next);
+        self.own < n && n < self.end
     }
-    false
-}
 
-// Whether a next position is beyond its own, and within the route.
-fn is_ahead(own: usize, end: usize, next: u8) -> bool
-    ensures { result ≡ (nat_lt own next && nat_lt next end) }
-{
-    let n = next as usize;
-    own < n && n < end
-}
-
-// Whether each next position is ahead, and named once.
-fn all_ahead(own: usize, end: usize, nexts: &[u8]) -> bool
-    ensures { result ≡ nexts_ok own end nexts.now }
-{
-    let mut left = nexts;
-    while let [next, more @ ..] = left {
-        if !is_ahead(own, end, *next) {
-            return false;
+    // Whether each next position is ahead, and named once.
+    fn all_ahead(self, nexts: &[u8]) -> bool
+        ensures { result ≡ nexts_ok self.own self.end nexts.now }
+    {
+        let mut left = nexts;
+        while let [next, more @ ..] = left {
+            if !self.is_ahead(*next) {
+                return false;
+            }
+            if is_named(*next, more) {
+                return false;
+            }
+            left = more;
         }
-        if is_named(*next, more) {
-            return false;
-        }
-        left = more;
+        true
     }
-    true
 }
 
-fn read_parts<'a>(
-    reader: &mut FieldReader<'a>,
-    own: usize,
-    end: usize,
-) -> Result<Parts<'a>, TableFault>
-    ensures found { named_as result ≡ named own end (spot_at (point_of reader.old)) (next_field InRoute (point_of reader.old)) }
+fn read_parts<'a>(reader: &mut FieldReader<'a>, slot: Slot) -> Result<Parts<'a>, TableFault>
+    ensures found { named_as result ≡ named slot.own slot.end (spot_at (point_of reader.old)) (next_field InRoute (point_of reader.old)) }
     ensures moved { IfOk result (λ x. (point_of reader.new ≡ past (point_of reader.old)) × (length x.nexts.now ≤ 4)) }
 {
     let spot = reader.spot();
     match reader.next(Turn::InRoute)? {
         Field::Position { nexts, needs } => {
-            if all_ahead(own, end, nexts) {
+            if slot.all_ahead(nexts) {
                 Ok(Parts { nexts, needs })
             } else {
                 Err(TableFault::WrongNext(spot))
@@ -79,18 +77,17 @@ fn read_parts<'a>(
     }
 }
 
-// The position with number `own`, of a route that ends before `end`.
-pub fn read_position(
+// The position with this number.
+pub(crate) fn read_position(
     reader: &mut FieldReader<'_>,
     resources: &[Resource],
-    own: usize,
-    end: usize,
+    slot: Slot,
 ) -> Result<Position, FitFault>
-    ensures found { placed_as result ≡ placed resources.now (spot_at (point_of reader.old)) (named own end (spot_at (point_of reader.old)) (next_field InRoute (point_of reader.old))) }
+    ensures found { placed_as result ≡ placed resources.now (spot_at (point_of reader.old)) (named slot.own slot.end (spot_at (point_of reader.old)) (next_field InRoute (point_of reader.old))) }
     ensures moved { OnOk result (point_of reader.new ≡ past (point_of reader.old)) }
 {
     let spot = reader.spot();
-    let Parts { nexts, needs } = read_parts(reader, own, end)?;
+    let Parts { nexts, needs } = read_parts(reader, slot)?;
     if some_lacking(resources, needs) {
         return Err(FitFault::NotInVenue(spot));
     }

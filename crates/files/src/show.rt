@@ -9,13 +9,15 @@ ghost use Rattle.layout.specs.Reading.{Reaches, FirstBad, Ends, show_start};
 ghost use Rattle.files.specs.Pairs.{ShowIn};
 ghost use Rattle.files.specs.Steps.{field_as, closed_as, show_at};
 
-use crate::position::read_position;
+use crate::position::{Slot, read_position};
+use crate::turns::turn_after;
 use faults::layers::{FitFault, TableFault};
 use fields::faults::FieldFault;
 use fields::field::{Field, Turn};
 use fields::reader::FieldReader;
 use fields::spot::File;
 use tables::position::Position;
+use tables::reserve::ShowReserve;
 use tables::resource::Resource;
 use tables::route::Route;
 use tables::show::Show;
@@ -24,7 +26,7 @@ const MOST_ROUTES: usize = 16;
 
 const MOST_POSITIONS: usize = 128;
 
-// The positions of one route, up to the number `end`, behind those that are there.
+// The positions of one route, up to the number `end`, behind those that are there; each is read as the number that it gets.
 fn read_positions(
     reader: &mut FieldReader<'_>,
     resources: &[Resource],
@@ -37,7 +39,7 @@ fn read_positions(
 {
     let first = positions.len();
     for own in first..end {
-        let position = read_position(reader, resources, own, end)?;
+        let position = read_position(reader, resources, Slot { own, end })?;
         positions.push_reserved(position);
     }
     Ok(())
@@ -59,18 +61,7 @@ fn table_close(reader: &FieldReader<'_>) -> Result<(), TableFault>
     Ok(())
 }
 
-// What may come after so many routes, each with all its positions.
-fn turn_after(count: usize) -> Turn
-    ensures { result ≡ (if nat_eq count 0 then FirstRoute else MoreRoutes) }
-{
-    if count == 0 {
-        Turn::FirstRoute
-    } else {
-        Turn::MoreRoutes
-    }
-}
-
-// Whether a route is one too many after so many routes, or its positions, before the number `end`, are.
+// Whether one route more than `routes` is too many, or positions up to the number `end` are.
 fn too_many(routes: usize, end: usize) -> bool
     ensures { result ≡ (nat_le 16 routes || nat_lt 128 end) }
 {
@@ -91,14 +82,19 @@ fn read_routes(
     table_field(&mut reader, Turn::Head)?;
     loop {
         let spot = reader.spot();
-        match table_field(&mut reader, turn_after(routes.len()))? {
+        match table_field(
+            &mut reader,
+            turn_after(routes.len(), Turn::FirstRoute, Turn::MoreRoutes),
+        )? {
             Field::Route { count } => {
                 let first = positions.len();
-                let end = first + count as usize;
+                let end = first + usize::from(count);
                 if too_many(routes.len(), end) {
+                    // the value stands where it is made
                     return Err(FitFault::Tables(TableFault::Fields(FieldFault::TooMany(spot))));
                 }
                 routes.push_reserved(Route {
+                    // below 128, as is proved
                     first: first as u16,
                     count,
                 });
@@ -116,14 +112,17 @@ fn read_routes(
 // The show, in memory that was reserved for it.
 pub fn read_show(
     resources: &[Resource],
-    mut routes: Vec<Route>,
-    mut positions: Vec<Position>,
+    reserve: ShowReserve,
     bytes: &[u8],
 ) -> Result<Show, FitFault>
-    requires { (length resources.now ≤ 16) × ((vec_len routes ≡ 0) × ((vec_len positions ≡ 0) × ((16 ≤ vec_capacity routes) × (128 ≤ vec_capacity positions)))) }
+    requires { length resources.now ≤ 16 }
     ensures ends { MatchResult result (λ s. Ends (show_start resources.now bytes.now) resources.now (counts_of s.routes.items) (positions_of s.positions.items)) (λ e. FirstBad (show_start resources.now bytes.now) e) }
     ensures laid { IfOk result (λ s. ShowIn resources.now bytes.now s.routes.items s.positions.items) }
 {
+    let ShowReserve {
+        mut routes,
+        mut positions,
+    } = reserve;
     read_routes(resources, bytes, &mut routes, &mut positions)?;
     Ok(Show { routes, positions })
 }

@@ -6,36 +6,17 @@ ghost use Rattle.tables.specs.Valid.{valid_venue};
 ghost use Rattle.layout.specs.Layout.{venue_file};
 ghost use Rattle.layout.specs.Reading.{FirstBad, Ends, venue_start};
 
+use crate::turns::turn_after;
 use faults::layers::TableFault;
 use fields::faults::FieldFault;
 use fields::field::{Field, Turn};
 use fields::reader::FieldReader;
 use fields::spot::File;
+use tables::reserve::VenueReserve;
 use tables::resource::Resource;
 use tables::venue::Venue;
 
 const MOST_RESOURCES: usize = 16;
-
-// A name as the tables hold it.
-fn eight(bytes: &[u8]) -> [u8; 8]
-    requires { length bytes.now ≡ 8 }
-    ensures { result ≡ bytes.now }
-{
-    let mut name = [0u8; 8];
-    name.copy_from_slice(bytes);
-    name
-}
-
-// What may come after so many resources.
-fn turn_after(count: usize) -> Turn
-    ensures { result ≡ (if nat_eq count 0 then FirstResource else MoreResources) }
-{
-    if count == 0 {
-        Turn::FirstResource
-    } else {
-        Turn::MoreResources
-    }
-}
 
 // Whether so many resources leave no room for one more.
 fn is_full(count: usize) -> bool
@@ -53,19 +34,20 @@ fn read_resources(bytes: &[u8], resources: &mut Vec<Resource>) -> Result<(), Tab
     reader.next(Turn::Head)?;
     loop {
         let spot = reader.spot();
-        match reader.next(turn_after(resources.len()))? {
+        match reader.next(turn_after(resources.len(), Turn::FirstResource, Turn::MoreResources))? {
             Field::Resource {
                 capacity,
                 order,
                 name,
             } => {
                 if is_full(resources.len()) {
+                    // the value stands where it is made
                     return Err(TableFault::Fields(FieldFault::TooMany(spot)));
                 }
                 resources.push_reserved(Resource {
                     capacity,
                     order,
-                    name: eight(name),
+                    name: *name,
                 });
             }
             Field::End => {
@@ -78,11 +60,11 @@ fn read_resources(bytes: &[u8], resources: &mut Vec<Resource>) -> Result<(), Tab
 }
 
 // The venue, in memory that was reserved for it.
-pub fn read_venue(mut resources: Vec<Resource>, bytes: &[u8]) -> Result<Venue, TableFault>
-    requires { (vec_len resources ≡ 0) × (16 ≤ vec_capacity resources) }
+pub fn read_venue(reserve: VenueReserve, bytes: &[u8]) -> Result<Venue, TableFault>
     ensures ends { MatchResult result (λ v. Ends (venue_start bytes.now) v.resources.items [] []) (λ e. FirstBad (venue_start bytes.now) (Tables e)) }
     ensures laid { IfOk result (λ v. bytes.now ≡ venue_file v.resources.items) }
 {
+    let VenueReserve { mut resources } = reserve;
     read_resources(bytes, &mut resources)?;
     Ok(Venue { resources })
 }

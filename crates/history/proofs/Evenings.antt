@@ -1,34 +1,33 @@
 -- Every right history keeps the promise.
-use Rattle.std.proofs.Common.{◌≡◌, ℕ, suc, ◌+◌, ◌<◌, ◌≤◌, ◌⊎◌, List, [], ◌∷◌, ◌++◌, length, get_or, set, Some, None, Option, sym, refl, ◌∙◌, subst, inl, inr, ⊎_elim, arith}
-use Rattle.refusals.specs.declared.Refusal.{Refusal}
+use Rattle.std.proofs.Common.{◌≡◌, ℕ, ◌+◌, ◌<◌, ◌≤◌, List, [], ◌∷◌, ◌++◌, length, Some, None, Option, sym, subst, inl, inr, ⊎_elim, arith, Ok, Err}
 use Rattle.refusals.specs.declared.Refusal.TheVariants.{NoSuchPiece, NoSuchRoute, NoRoom}
 use Rattle.tables.specs.Plan.{Plan, routes, first}
 use Rattle.figures.specs.Sound.{Sound}
-use Rattle.figures.specs.Placing.{off, home_step, distance}
+use Rattle.figures.specs.Placing.{distance}
 use Rattle.figures.proofs.Lawful.{laws}
-use Rattle.rules.specs.Placing.{On, nobody}
+use Rattle.rules.specs.Placing.{nobody}
 use Rattle.rules.specs.Placings.{off-all}
 use Rattle.history.specs.declared.calls.Call.{Call}
 use Rattle.history.specs.declared.calls.Call.TheVariants.{Start, Move, Leave, Clear}
-use Rattle.history.specs.declared.calls.Answer.{Answer}
-use Rattle.history.specs.declared.calls.Answer.TheVariants.{Granted, Cleared, Refused}
+use Rattle.history.specs.Answer.{Answer}
+use Rattle.history.specs.declared.calls.Granted.TheVariants.{Moved, Cleared}
 use Rattle.history.specs.Calls.{Answers, StartAnswers, ClearAnswers, after}
-use Rattle.history.specs.History.{History, placing, Right, clears, AllCleared, Kept, Stands, Promised}
+use Rattle.history.specs.History.{History, placing, Right, clears, AllCleared, Kept, Promised}
 use Rattle.history.specs.Points.{Points}
 use Rattle.history.proofs.Answered.{Passed, answered, passed}
 use Rattle.history.proofs.Distances.{nearer, home, away}
 
-never-route : Refused NoRoom ≡ Refused NoSuchRoute → ⊥
+never-route : ◌≡◌ {A = Answer} (Err NoRoom) (Err NoSuchRoute) → ⊥
 never-route e = let z : ◌≡◌ {A = ℕ} 0 1 = cc in omega arith
 
-never-piece : Refused NoRoom ≡ Refused NoSuchPiece → ⊥
+never-piece : ◌≡◌ {A = Answer} (Err NoRoom) (Err NoSuchPiece) → ⊥
 never-piece e = let z : ◌≡◌ {A = ℕ} 0 1 = cc in omega arith
 
 module _ (t : Plan) (sound : Sound t) (allowed : List ℕ → Type 0) (named : List ℕ → Option ℕ → Type 0) (points : Points t allowed named) where
   stays : (w : List ℕ) (c : Call) (a : Answer) → allowed w → Answers t allowed named w c a → allowed (after t w c a)
   stays w c a al h = answered t allowed named w (λ b. allowed (after t w c b)) (λ _. al) c a (granted w c al) (λ k is. (points.goes w (Some k) is).2) h
     where
-      granted : (w : List ℕ) (c : Call) → allowed w → Passed t allowed w c → allowed (after t w c Granted)
+      granted : (w : List ℕ) (c : Call) → allowed w → Passed t allowed w c → allowed (after t w c (Ok Moved))
       granted w (Start k j) al p = p.1
       granted w (Move k q) al p = p.1
       granted w (Leave k) al p = points.removal w k al p
@@ -40,7 +39,7 @@ module _ (t : Plan) (sound : Sound t) (allowed : List ℕ → Type 0) (named : L
   reached (e ∷ h) r = stays (placing t h) e.0 e.1 (reached h r.1) r.0
 
   -- one clear: a piece goes home while one is on
-  cleared : (w : List ℕ) (a : Answer) → allowed w → ClearAnswers named w a → 0 < distance t w → ((k : ℕ) × (a ≡ Cleared k)) × (distance t (after t w Clear a) + 1 ≡ distance t w)
+  cleared : (w : List ℕ) (a : Answer) → allowed w → ClearAnswers named w a → 0 < distance t w → ((k : ℕ) × (a ≡ Ok (Cleared k))) × (distance t (after t w Clear a) + 1 ≡ distance t w)
   cleared w a al (inl h) d = ((h.0, h.2), rw h.2 (nearer t sound w h.0 (points.formed w al) (points.goes w (Some h.0) h.1).1))
   cleared w a al (inr h) d = let someone = away t sound w d in absurd (points.goes w None h.0 al someone.0 someone.1)
 
@@ -58,12 +57,12 @@ module _ (t : Plan) (sound : Sound t) (allowed : List ℕ → Type 0) (named : L
       home t sound (placing t (clears answers ++ h)) (points.formed _ (reached (clears answers ++ h) r)) (omega (arith, down.1))
 
   -- a start that was refused for room only named a piece and a route
-  known : (k j : ℕ) (w : List ℕ) → StartAnswers t allowed w k j (Refused NoRoom) → (k < 64) × (j < routes t)
+  known : (k j : ℕ) (w : List ℕ) → StartAnswers t allowed w k j (Err NoRoom) → (k < 64) × (j < routes t)
   known k j w (inl h) = (h.0, ⊎_elim (λ x. x.0) (λ x. absurd (never-route x.1)) h.1)
   known k j w (inr h) = absurd (never-piece h.1)
 
   -- on the empty stage such a start is granted
-  again : (k j : ℕ) (a : Answer) → k < 64 → j < routes t → StartAnswers t allowed nobody k j a → a ≡ Granted
+  again : (k j : ℕ) (a : Answer) → k < 64 → j < routes t → StartAnswers t allowed nobody k j a → a ≡ Ok Moved
   again k j a piece route h = passed piece (passed route (passed (off-all 64 k) (passed (points.alone k (first t j) piece (sound.begins j route)) (λ e. e)))) h
 
   -- every right history keeps the promise

@@ -1,5 +1,5 @@
 -- What each call is answered from the placing before it, and the placing after it.
-use Rattle.std.specs.Prelude.{◌≡◌, ℕ, ◌<◌, ◌⊎◌, List, [], Some, None, Option, slice_index_or, slice_set}
+use Rattle.std.specs.Prelude.{◌≡◌, ℕ, ◌<◌, ◌⊎◌, List, [], Some, None, Option, slice_index_or, slice_set, Ok, Err}
 use Rattle.std.specs.List.{ContainsAt as Has}
 use Rattle.refusals.specs.declared.Refusal.{Refusal}
 use Rattle.refusals.specs.declared.Refusal.TheVariants.{NoSuchPiece, NoSuchRoute, AlreadyOn, NotOn, NotNext, NotLast, StageEmpty, NoRoom}
@@ -8,15 +8,15 @@ use Rattle.figures.specs.Placing.{off, home_step}
 use Rattle.rules.specs.Placing.{On}
 use Rattle.history.specs.declared.calls.Call.{Call}
 use Rattle.history.specs.declared.calls.Call.TheVariants.{Start, Move, Leave, Clear}
-use Rattle.history.specs.declared.calls.Answer.{Answer}
-use Rattle.history.specs.declared.calls.Answer.TheVariants.{Granted, Cleared, Refused}
+use Rattle.history.specs.Answer.{Answer}
+use Rattle.history.specs.declared.calls.Granted.TheVariants.{Moved, Cleared}
 
 -- a check: where it holds the rest decides, else the answer is its refusal
 abbrev pub check : Refusal → Type 0 → (Answer → Type 0) → Answer → Type 0
-check n ok rest a = (ok × rest a) ⊎ ((ok → ⊥) × (a ≡ Refused n))
+check n ok rest a = (ok × rest a) ⊎ ((ok → ⊥) × (a ≡ Err n))
 
 abbrev pub granted : Answer → Type 0
-granted a = a ≡ Granted
+granted a = a ≡ Ok Moved
 
 -- the next positions of where piece k is
 abbrev pub next_of : Plan → List ℕ → ℕ → List ℕ
@@ -36,7 +36,7 @@ LeaveAnswers t w k =
 
 -- the piece that the rule names goes; where it names none the stage is empty
 abbrev pub ClearAnswers : (List ℕ → Option ℕ → Type 0) → List ℕ → Answer → Type 0
-ClearAnswers named w a = ((k : ℕ) × named w (Some k) × (a ≡ Cleared k)) ⊎ (named w None × (a ≡ Refused StageEmpty))
+ClearAnswers named w a = ((k : ℕ) × named w (Some k) × (a ≡ Ok (Cleared k))) ⊎ (named w None × (a ≡ Err StageEmpty))
 
 -- what a call is answered, from the placing before it
 abbrev pub Answers : Plan → (List ℕ → Type 0) → (List ℕ → Option ℕ → Type 0) → List ℕ → Call → Answer → Type 0
@@ -54,6 +54,6 @@ done t w Clear = w
 
 -- the placing after a call and its answer; a refusal changes nothing
 abbrev pub after : Plan → List ℕ → Call → Answer → List ℕ
-after t w c Granted = done t w c
-after t w c (Cleared k) = home_step t w k
-after t w c (Refused n) = w
+after t w c (Ok Moved) = done t w c
+after t w c (Ok (Cleared k)) = home_step t w k
+after t w c (Err n) = w

@@ -1,13 +1,13 @@
 -- Histories: calls with their answers, and what every history keeps.
-use Rattle.std.specs.Prelude.{◌≡◌, ℕ, ◌<◌, ◌≤◌, List, [], ◌∷◌, ◌++◌, map, length, Option}
+use Rattle.std.specs.Prelude.{◌≡◌, ℕ, ◌<◌, ◌≤◌, List, [], ◌∷◌, ◌++◌, map, length, Option, Ok, Err}
 use Rattle.refusals.specs.declared.Refusal.TheVariants.{NoRoom}
 use Rattle.tables.specs.Plan.{Plan}
 use Rattle.figures.specs.Placing.{distance}
 use Rattle.rules.specs.Placing.{On, Fits, nobody}
 use Rattle.history.specs.declared.calls.Call.{Call}
 use Rattle.history.specs.declared.calls.Call.TheVariants.{Start, Clear}
-use Rattle.history.specs.declared.calls.Answer.{Answer}
-use Rattle.history.specs.declared.calls.Answer.TheVariants.{Granted, Cleared, Refused}
+use Rattle.history.specs.Answer.{Answer}
+use Rattle.history.specs.declared.calls.Granted.TheVariants.{Moved, Cleared}
 use Rattle.history.specs.Calls.{Answers, after}
 
 -- the newest call first
@@ -31,7 +31,7 @@ clears answers = map (λ a. (Clear, a)) answers
 -- all of them were granted
 abbrev pub AllCleared : List Answer → Type 0
 AllCleared [] = Unit {0}
-AllCleared (a ∷ answers) = ((k : ℕ) × (a ≡ Cleared k)) × AllCleared answers
+AllCleared (a ∷ answers) = ((k : ℕ) × (a ≡ Ok (Cleared k))) × AllCleared answers
 
 -- what every history keeps, at its moment, D being the distance home
 pub record Kept (t : Plan) (allowed : List ℕ → Type 0) (named : List ℕ → Option ℕ → Type 0) (h : History) : Type 0 where
@@ -43,8 +43,8 @@ pub record Kept (t : Plan) (allowed : List ℕ → Type 0) (named : List ℕ →
   pub fewer : (answers : List Answer) → Right t allowed named (clears answers ++ h) → length answers < distance t (placing t h) → (k : ℕ) × On (placing t (clears answers ++ h)) k
   pub emptied : (answers : List Answer) → Right t allowed named (clears answers ++ h) → length answers ≡ distance t (placing t h) → placing t (clears answers ++ h) ≡ nobody
   -- a start that found no room, given again directly after those D calls, is granted
-  pub started : (k j : ℕ) (past : History) → h ≡ (Start k j, Refused NoRoom) ∷ past → (answers : List Answer) → length answers ≡ distance t (placing t h)
-      → (a : Answer) → Right t allowed named ((Start k j, a) ∷ (clears answers ++ h)) → a ≡ Granted
+  pub started : (k j : ℕ) (past : History) → h ≡ (Start k j, Err NoRoom) ∷ past → (answers : List Answer) → length answers ≡ distance t (placing t h)
+      → (a : Answer) → Right t allowed named ((Start k j, a) ∷ (clears answers ++ h)) → a ≡ Ok Moved
 
 -- the history stands at a placing: it is right, and leads there
 pub record Stands (t : Plan) (allowed : List ℕ → Type 0) (named : List ℕ → Option ℕ → Type 0) (h : History) (w : List ℕ) : Type 0 where

@@ -1,3 +1,4 @@
+pub mod Answer
 pub mod Calls
 pub mod History
 pub mod Points

@@ -10,10 +10,11 @@ pub enum Call {
     Clear,
 }
 
-// A granted clear answers the piece that made its step home.
+// What a granted call did: it moved the piece that it speaks of, or, a clear, took the piece that the rule names a step home.
 #[derive(Clone, Copy, PartialEq, Eq, Debug)]
-pub enum Answer {
-    Granted,
+pub enum Granted {
+    Moved,
     Cleared(u8),
-    Refused(Refusal),
 }
+
+pub type Answer = Result<Granted, Refusal>;

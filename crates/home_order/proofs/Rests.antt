@@ -1,11 +1,11 @@
 -- What is left while pieces are taken off, one that can go home at a time.
-use Rattle.std.proofs.Common.{◌≡◌, ℕ, ◌+◌, ◌<◌, List, length, get_or, set, refl, ap, ◌∙◌, arith}
-use Rattle.tables.specs.Plan.{Plan, kinds, need}
+use Rattle.std.proofs.Common.{ℕ, ◌<◌, List, get_or, set, refl, arith}
+use Rattle.tables.specs.Plan.{Plan}
 use Rattle.figures.specs.Sound.{Sound}
-use Rattle.figures.specs.Placing.{off, if_on}
-use Rattle.rules.specs.Placing.{On, Formed, Fits, on_count}
+use Rattle.figures.specs.Placing.{off}
+use Rattle.rules.specs.Placing.{Formed, Fits, on_count}
 use Rattle.rules.specs.Placings.{on_below, if-on, if-off, total-set, formed-off}
-use Rattle.home_order.specs.HomeOrder.{GoesHome, HasOrder}
+use Rattle.home_order.specs.HomeOrder.{HasOrder}
 use Rattle.home_order.specs.Goers.{Goer}
 use Rattle.home_order.specs.Sums.{SumsOf, Less}
 use Rattle.home_order.specs.Homes.{has-removal, goes_back}

@@ -1,14 +1,13 @@
 -- The peak needs fit exactly if every placing on the way home does.
 use Rattle.std.specs.Prelude.{◌≡◌, ℕ, ◌+◌, ◌<◌, ◌≤◌, max, List, [], ◌∷◌, length, slice_index_or, slice_set}
-use Rattle.std.proofs.Common.{sym, subst, ◌∙◌, ⊎_elim, arith}
+use Rattle.std.proofs.Common.{sym, subst, ⊎_elim, arith}
 use Rattle.std.specs.List.{AllByRecursion}
 use Rattle.std.proofs.ByRecursion.{All-weaker}
 use Rattle.std.proofs.lemmas.List.{set_past}
 use Rattle.std.proofs.lemmas.Bool.{cases_eq, cases_lt}
-use Rattle.tables.specs.Plan.{Plan, kinds, count, capacity, need}
+use Rattle.tables.specs.Plan.{Plan, kinds, capacity, need}
 use Rattle.figures.specs.Sound.{Sound}
 use Rattle.figures.specs.Way.{along, after, way}
-use Rattle.figures.specs.Claims.{peak}
 use Rattle.figures.specs.Placing.{off, if_on}
 use Rattle.rules.specs.Placing.{On, Fits, held}
 use Rattle.rules.specs.Placings.{on_below, if-on, if-off, total-set}

@@ -1,6 +1,6 @@
 -- The points of the home-order rule.
-use Rattle.std.specs.Prelude.{◌≡◌, ℕ, ◌<◌, ◌≤◌, List, [], ◌∷◌, length, get_or, set, Some, None, Option, MatchOption, ◌≢◌, slice_index_or, slice_set, refl}
-use Rattle.std.proofs.Common.{sym, ap, subst, ◌∙◌, ⊎_elim, arith}
+use Rattle.std.specs.Prelude.{◌≡◌, ℕ, ◌<◌, ◌≤◌, List, [], ◌∷◌, get_or, set, Some, None, Option, MatchOption, ◌≢◌, slice_index_or, slice_set, refl}
+use Rattle.std.proofs.Common.{sym, ap, subst, ◌∙◌, arith}
 use Rattle.std.specs.Option.{unwrap_or}
 use Rattle.std.specs.List.{AllByRecursion}
 use Rattle.std.proofs.ByRecursion.{All-weaker, All-from_get_or}
@@ -8,13 +8,13 @@ use Rattle.std.proofs.lemmas.List.{get_or-set_same, get_or-set_other, set-set}
 use Rattle.tables.specs.Plan.{Plan, count, capacity, need}
 use Rattle.figures.specs.Sound.{Sound}
 use Rattle.figures.specs.Way.{main, from, after, way}
-use Rattle.figures.specs.Placing.{off, home_step}
+use Rattle.figures.specs.Placing.{off}
 use Rattle.figures.proofs.Ways.{main-ahead, after-step}
-use Rattle.rules.specs.Placing.{On, Fits, Roomy, nobody}
+use Rattle.rules.specs.Placing.{Fits, nobody}
 use Rattle.rules.specs.Rule.{Names}
 use Rattle.rules.specs.Placings.{on_below, nobody-on, still-on, formed-set}
 use Rattle.rules.specs.Kept.{kept-empty, kept-alone, kept-removal, within-alone}
-use Rattle.home_order.specs.HomeOrder.{GoesHome, AllGoHome, HasOrder, CanGoFirst, HomeOrder, HomeOrderNames}
+use Rattle.home_order.specs.HomeOrder.{AllGoHome, CanGoFirst, HomeOrder, HomeOrderNames}
 use Rattle.home_order.specs.Goers.{Stuck, Goer}
 use Rattle.home_order.specs.Homes.{has-removal, goes_first, stuck-order}
 use Rattle.home_order.specs.Peaks.{fits-removal}

@@ -1,4 +1,4 @@
-// Who can go home first, and whether all can go.
+// Who can go home first, and whether all can go. Placing and sums stand apart: whoever takes pieces off changes both.
 ghost use Rattle.std.specs.Prelude.{◌≡◌, ℕ, Decides, MatchOption};
 ghost use Rattle.tables.specs.Plan.{plan};
 ghost use Rattle.rules.specs.Placing.{On, Formed, Fits};
@@ -10,36 +10,28 @@ use crate::sums::{peaks_fit, sums_of, take_off};
 use figures::stage::Stage;
 use rules::placing::OFF;
 
-// The lowest-numbered piece that can go its whole way home, the others standing still.
-pub(crate) fn first_to_go(stage: &Stage, placing: &[u16], sums: &[u32; 16]) -> Option<u8>
+// The lowest-numbered piece that can go its whole way home, the others standing still. A piece is below 64, so its number fits a byte.
+pub(crate) fn first_to_go(stage: &Stage, placing: &[u16; 64], sums: &[u32; 16]) -> Option<u8>
     requires formed { Formed (plan stage.now.tables) placing.now }
     requires sums { SumsOf (plan stage.now.tables) placing.now sums.now }
-    ensures { MatchOption result (Stuck (Fits (plan stage.now.tables)) (plan stage.now.tables) placing.now) (λ k. Goer (Fits (plan stage.now.tables)) (plan stage.now.tables) placing.now k) }
+    ensures { let t = plan stage.now.tables in MatchOption result (Stuck (Fits t) t placing.now) (λ k. Goer (Fits t) t placing.now k) }
 {
-    for k in 0..64u8 {
-        let p = placing[usize::from(k)];
-        if p != OFF && peaks_fit(stage, sums, p) {
-            return Some(k);
-        }
-    }
-    None
+    placing
+        .iter()
+        .position(|p| *p != OFF && peaks_fit(stage, sums, *p))
+        .map(|k| k as u8)
 }
 
 fn nobody_on(placing: &[u16]) -> bool
     ensures { Decides result ((k : ℕ) → On placing.now k → ⊥) }
 {
-    for p in placing {
-        if *p != OFF {
-            return false;
-        }
-    }
-    true
+    placing.iter().all(|p| *p == OFF)
 }
 
 // Takes pieces off as long as one can go home, and says whether nobody is left.
-pub(crate) fn all_go_home(stage: &Stage, rest: &mut [u16]) -> bool
+pub(crate) fn all_go_home(stage: &Stage, rest: &mut [u16; 64]) -> bool
     requires { Formed (plan stage.now.tables) rest.old }
-    ensures { Decides result (HasOrder (Fits (plan stage.now.tables)) (plan stage.now.tables) rest.old) }
+    ensures { let t = plan stage.now.tables in Decides result (HasOrder (Fits t) t rest.old) }
 {
     let mut sums = sums_of(stage, rest);
     while let Some(k) = first_to_go(stage, rest, &sums) {
@@ -51,7 +43,7 @@ pub(crate) fn all_go_home(stage: &Stage, rest: &mut [u16]) -> bool
 }
 
 // Of a placing whose pieces can all go home, the lowest-numbered piece that can go first.
-pub(crate) fn first_home(stage: &Stage, placing: &[u16]) -> Option<u8>
+pub(crate) fn first_home(stage: &Stage, placing: &[u16; 64]) -> Option<u8>
     requires { HomeOrder (plan stage.now.tables) placing.now }
     ensures { HomeOrderNames (plan stage.now.tables) placing.now result }
 {

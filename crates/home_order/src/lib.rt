@@ -34,7 +34,11 @@ impl AdmissionRule for HomeOrderRule {
             return false;
         }
         space.copy_from_slice(placing);
-        let allowed = all_go_home(stage, space);
+        // a match, since a closure would have to ask what `all_go_home` asks
+        let allowed = match space.first_chunk_mut::<64>() {
+            Some(rest) => all_go_home(stage, rest),
+            None => false,
+        };
         space.fill(0);
         allowed
     }
@@ -49,6 +53,6 @@ impl ClearingRule for HomeOrderRule {
         if !self.allows(stage, placing, space) {
             return None;
         }
-        first_home(stage, placing)
+        first_home(stage, placing.as_array::<64>()?)
     }
 }

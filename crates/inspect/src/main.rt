@@ -6,26 +6,17 @@ mod sheet;
 mod trip;
 
 use opening::open;
-use std::{fs, io};
+use std::io;
 use tables::reserve::Reserve;
 use texts::refused::refusal_text;
 
-// A file's bytes. A file that is not there counts as empty.
-fn bytes_of(rt: &HostRuntime, path: &str) -> io::Result<Vec<u8>> {
-    match fs::read(rt, path) {
-        Err(e) if e.kind() == io::ErrorKind::NotFound => Ok(Vec::new(rt.alloc())),
-        read => read,
-    }
-}
-
 fn main(rt: HostRuntime) -> io::Result<()> {
     let heap = rt.alloc();
-    let venue = bytes_of(&rt, "venue.bin")?;
-    let show = bytes_of(&rt, "show.bin")?;
-    match open(Reserve::take(heap)?, venue.as_slice(), show.as_slice()) {
+    let files = folder::files(&rt)?;
+    match open(Reserve::take(heap)?, files.pair()) {
         Ok(stage) => {
             sheet::print(&rt, &stage)?;
-            trip::print(&rt, &stage.tables, venue.as_slice(), show.as_slice())
+            trip::print(&rt, &stage.tables, files.pair())
         }
         Err(fault) => rt.println(refusal_text(heap, fault)?),
     }

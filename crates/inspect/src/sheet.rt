@@ -37,6 +37,7 @@ fn print_route(
     Ok(())
 }
 
+// By number, which the stage is asked by and which is printed.
 fn print_figures(
     rt: &HostRuntime,
     route: &Route,

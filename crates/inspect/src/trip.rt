@@ -1,4 +1,5 @@
 // The tables written back: how long the files are, and whether they are the bytes that were read.
+use fields::spot::Pair;
 use refusals::TooShort;
 use round_trip::back::{Back, show_back, venue_back};
 use std::io;
@@ -22,17 +23,17 @@ fn print_back(rt: &HostRuntime, file: &str, back: Result<Back, TooShort>) -> io:
     }
 }
 
-pub fn print(rt: &HostRuntime, tables: &Tables, venue: &[u8], show: &[u8]) -> io::Result<()> {
-    let mut space = vec![in rt.alloc(); 0u8; venue.len().max(show.len())]?;
+pub fn print(rt: &HostRuntime, tables: &Tables, pair: Pair<'_>) -> io::Result<()> {
+    let mut space = vec![in rt.alloc(); 0u8; pair.venue.len().max(pair.show.len())]?;
     println!(rt; "")?;
     print_back(
         rt,
         "venue",
-        venue_back(&tables.venue, venue, space.as_mut_slice()),
+        venue_back(&tables.venue, pair.venue, space.as_mut_slice()),
     )?;
     print_back(
         rt,
         "show",
-        show_back(&tables.show, show, space.as_mut_slice()),
+        show_back(&tables.show, pair.show, space.as_mut_slice()),
     )
 }

@@ -1,8 +1,8 @@
 -- A line that begins with one word says nothing that begins with another.
-use Rattle.std.proofs.Common.{◌≡◌, ℕ, List, [], ◌∷◌, ◌++◌, length, get_or, drop, codes, sym, ap, ◌∙◌, subst, arith}
+use Rattle.std.proofs.Common.{◌≡◌, ℕ, List, ◌++◌, get_or, drop, codes, sym, ap, ◌∙◌, subst, arith}
 use Rattle.history.specs.declared.calls.Call.{Call}
 use Rattle.history.specs.declared.calls.Call.TheVariants.{Start, Move, Leave, Clear}
-use Rattle.lines.specs.Lines.{Number, Numbers, Says}
+use Rattle.lines.specs.Lines.{Numbers, Says}
 
 -- two texts of one line begin alike, and go on alike
 alike : (line a b : List ℕ) → line ≡ a → line ≡ b → get_or a 0 0 ≡ get_or b 0 0
@@ -23,13 +23,3 @@ module _ (line text : List ℕ) where
   only-move e none (Move k p) s = none k p (subst (λ x. Numbers x k p) (rest 5 line _ _ e s.1) s.2)
   only-move e none (Leave k) s = omega (arith, alike line _ _ e s.1)
   only-move e none Clear s = omega (arith, alike line _ _ e s)
-
-  pub only-leave : line ≡ codes "leave " ++ text → ((k : ℕ) → Number text k → ⊥) → (c : Call) → Says line c → ⊥
-  only-leave e none (Start k j) s = omega (arith, alike line _ _ e s.1)
-  only-leave e none (Move k p) s = omega (arith, alike line _ _ e s.1)
-  only-leave e none (Leave k) s = none k (subst (λ x. Number x k) (rest 6 line _ _ e s.1) s.2)
-  only-leave e none Clear s = omega (arith, alike line _ _ e s)
-
-pub just-clear : (line text : List ℕ) → line ≡ codes "clear" ++ text → length text ≡ 0 → Says line Clear
-just-clear line [] e n = e
-just-clear line (x ∷ text) e n = absurd (omega arith)

@@ -1,8 +1,7 @@
 -- A text that is cut at its first space.
-use Rattle.std.proofs.Common.{◌≡◌, ℕ, zero, suc, ◌+◌, ◌<◌, ◌≤◌, List, [], ◌∷◌, ◌++◌, length, get_or, take, drop, sym, refl, ap, ◌∙◌, subst, ⊎_elim, arith}
+use Rattle.std.proofs.Common.{◌≡◌, ℕ, zero, suc, ◌+◌, ◌<◌, List, [], ◌∷◌, ◌++◌, ◌-◌, length, get_or, take, drop, take_all, length-drop, sym, refl, ap, ◌∙◌, subst, arith}
+use Rattle.std.proofs.lemmas.List.{drop-drop}
 use Rattle.std.specs.List.{AllByRecursion as All}
-use Rattle.std.proofs.ByRecursion.{All-get_or}
-use Rattle.std.proofs.lemmas.Bool.{cases_lt, cases_eq}
 use Rattle.lines.specs.Lines.{Number, Numbers, space}
 use Rattle.lines.proofs.Digits.{no-space}
 
@@ -41,3 +40,7 @@ numbers-at text i k j here first h =
     let before : take i text ≡ a = ap (take i) is ∙ ap (λ n. take n (a ++ space ∷ b)) at ∙ front a b in
     let rest : drop 1 (drop i text) ≡ b = ap (drop 1) (ap (drop i) is ∙ ap (λ n. drop n (a ++ space ∷ b)) at ∙ behind-front a b) in
     (subst (λ xs. Number xs k) (sym before) h.3, subst (λ xs. Number xs j) (sym rest) h.4)
+
+-- what stands behind the first space, as a range of the text
+pub tail : (text : List ℕ) (i : ℕ) → take (length text - (i + 1)) (drop (i + 1) text) ≡ drop 1 (drop i text)
+tail text i = take_all (length text - (i + 1)) (drop (i + 1) text) (omega (arith, length-drop (i + 1) text)) ∙ sym (drop-drop 1 i text)

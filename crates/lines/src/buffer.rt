@@ -6,6 +6,7 @@ ghost use Rattle.lines.specs.Front.{Holds};
 
 use crate::parse::parse;
 use crate::pending::Pending;
+use arrayvec::ArrayVec;
 use history::calls::Call;
 
 impl Pending {
@@ -14,8 +15,7 @@ impl Pending {
         ensures { Holds result [] }
     {
         Pending {
-            bytes: [0; 18],
-            count: 0,
+            bytes: ArrayVec::new(),
         }
     }
 
@@ -23,9 +23,8 @@ impl Pending {
     pub fn push(&mut self, byte: u8)
         ensures { (line : List ℕ) → Holds self.old line → Holds self.new (line ++ byte ∷ []) }
     {
-        if self.count < 18 {
-            self.bytes[self.count] = byte;
-            self.count += 1;
+        if !self.bytes.is_full() {
+            self.bytes.push(byte);
         }
     }
 
@@ -33,6 +32,6 @@ impl Pending {
     pub fn call(&self) -> Option<Call>
         ensures { (line : List ℕ) → Holds self.now line → MatchOption result ((c : Call) → Says line c → ⊥) (λ c. Says line c) }
     {
-        parse(&self.bytes[0..self.count])
+        parse(&self.bytes)
     }
 }

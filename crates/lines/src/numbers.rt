@@ -9,8 +9,9 @@ fn value_of(digits: &[u8]) -> Option<u32>
     ensures { MatchOption result (AllByRecursion Digit digits.now → ⊥) (λ n. AllByRecursion Digit digits.now × (n ≡ value digits.now)) }
 {
     let mut n: u32 = 0;
+    // Digit by digit, since the number so far is below ten to their count, which a fold's closure does not know.
     for d in digits {
-        if *d < b'0' || *d > b'9' {
+        if !d.is_ascii_digit() {
             return None;
         }
         n = n * 10 + u32::from(*d - b'0');
@@ -22,38 +23,25 @@ fn value_of(digits: &[u8]) -> Option<u32>
 pub(crate) fn number(text: &[u8]) -> Option<u32>
     ensures { MatchOption result ((n : ℕ) → Number text.now n → ⊥) (λ n. Number text.now n) }
 {
-    if text.len() == 0 || text.len() > 5 {
-        return None;
+    match text.len() {
+        1..=5 => value_of(text),
+        _ => None,
     }
-    value_of(text)
 }
 
 // Where the first space of a text is.
 fn first_space(text: &[u8]) -> Option<usize>
     ensures { MatchOption result (AllByRecursion (λ x. x ≢ space) text.now) (λ i. (i < length text.now) × (slice_index text.now i ≡ space) × ((j : ℕ) → j < i → slice_index text.now j ≢ space)) }
 {
-    for i in 0..text.len() {
-        if text[i] == b' ' {
-            return Some(i);
-        }
-    }
-    None
+    text.iter().position(|x| *x == b' ')
 }
 
 // Two numbers with one space between.
 pub(crate) fn two_numbers(text: &[u8]) -> Option<(u32, u32)>
     ensures { MatchOption result ((k j : ℕ) → Numbers text.now k j → ⊥) (λ x. Numbers text.now x.0 x.1) }
 {
-    let Some(i) = first_space(text) else {
-        return None;
-    };
-    let (first, rest) = text.split_at(i);
-    let (_, second) = rest.split_at(1);
-    let Some(k) = number(first) else {
-        return None;
-    };
-    let Some(j) = number(second) else {
-        return None;
-    };
-    Some((k, j))
+    let i = first_space(text)?;
+    let first = number(&text[..i])?;
+    let second = number(&text[i + 1..])?;
+    Some((first, second))
 }

@@ -12,25 +12,16 @@ pub fn parse(line: &[u8]) -> Option<Call>
     ensures { MatchOption result ((c : Call) → Says line.now c → ⊥) (λ c. Says line.now c) }
 {
     if let Some(text) = behind(line, b"start ") {
-        return match two_numbers(text) {
-            Some((piece, route)) => Some(Call::Start(piece, route)),
-            None => None,
-        };
+        let (piece, route) = two_numbers(text)?;
+        return Some(Call::Start(piece, route));
     }
     if let Some(text) = behind(line, b"move ") {
-        return match two_numbers(text) {
-            Some((piece, position)) => Some(Call::Move(piece, position)),
-            None => None,
-        };
+        let (piece, position) = two_numbers(text)?;
+        return Some(Call::Move(piece, position));
     }
     if let Some(text) = behind(line, b"leave ") {
-        return match number(text) {
-            Some(piece) => Some(Call::Leave(piece)),
-            None => None,
-        };
+        let piece = number(text)?;
+        return Some(Call::Leave(piece));
     }
-    match behind(line, b"clear") {
-        Some(text) if text.len() == 0 => Some(Call::Clear),
-        _ => None,
-    }
+    (line == b"clear".as_slice()).then_some(Call::Clear)
 }

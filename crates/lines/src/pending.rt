@@ -1,9 +1,7 @@
-// The front of a line, as far as it can matter: a longer line says nothing.
-ghost use Rattle.std.specs.Prelude.{◌≤◌};
+use arrayvec::ArrayVec;
 
-#[derive(Clone, Copy)]
+// The front of a line, as far as it can matter: a longer line says nothing.
+#[derive(Clone, Drop)]
 pub struct Pending {
-    pub bytes: [u8; 18],
-    pub count: usize,
-    ghost few: { count ≤ 18 },
+    pub bytes: ArrayVec<u8, 18>,
 }

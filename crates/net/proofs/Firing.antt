@@ -1,5 +1,5 @@
 -- Along every history under the ordered rule, the marking is the count of the placing.
-use Rattle.std.proofs.Common.{◌≡◌, ℕ, ◌<◌, List, [], ◌∷◌, get_or, set, Some, subst, arith}
+use Rattle.std.proofs.Common.{◌≡◌, ℕ, ◌<◌, List, [], ◌∷◌, get_or, set, Some, subst, arith, Ok, Err}
 use Rattle.refusals.specs.declared.Refusal.{Refusal}
 use Rattle.std.specs.List.{ContainsAt as Has}
 use Rattle.tables.specs.Plan.{Plan, count, first, next}
@@ -13,8 +13,8 @@ use Rattle.rules.specs.Kept.{kept-empty, kept-alone, kept-removal}
 use Rattle.rules.specs.Orders.{ordered-fits, ordered-goes}
 use Rattle.history.specs.declared.calls.Call.{Call}
 use Rattle.history.specs.declared.calls.Call.TheVariants.{Start, Move, Leave, Clear}
-use Rattle.history.specs.declared.calls.Answer.{Answer}
-use Rattle.history.specs.declared.calls.Answer.TheVariants.{Granted, Cleared, Refused}
+use Rattle.history.specs.Answer.{Answer}
+use Rattle.history.specs.declared.calls.Granted.TheVariants.{Moved, Cleared}
 use Rattle.history.specs.Calls.{Answers, after}
 use Rattle.history.specs.History.{History, placing, Right, Stands, Promised}
 use Rattle.history.specs.Points.{Points}
@@ -23,10 +23,10 @@ use Rattle.history.proofs.Evenings.{reached}
 use Rattle.net.specs.Net.{Place, IsPlace, Marking, Enabled, fired, marking, counts, source, target, Checked, AsTheNet}
 use Rattle.net.proofs.Tokens.{Agrees, agrees-initial, agrees-fire, allowed-enabled, enabled-allowed}
 
-not-refused : (n : Refusal) → Refused n ≡ Granted → ⊥
+not-refused : (n : Refusal) → ◌≡◌ {A = Answer} (Err n) (Ok Moved) → ⊥
 not-refused n e = let z : ◌≡◌ {A = ℕ} 0 1 = cc in omega arith
 
-not-cleared : (k : ℕ) → Cleared k ≡ Granted → ⊥
+not-cleared : (k : ℕ) → ◌≡◌ {A = Answer} (Ok (Cleared k)) (Ok Moved) → ⊥
 not-cleared k e = let z : ◌≡◌ {A = ℕ} 0 1 = cc in omega arith
 
 -- a next position is a position
@@ -49,13 +49,13 @@ module _ (t : Plan) (sound : Sound t) where
   agrees_after w c a m ordered answers agrees =
       answered t (Ordered t) (OrderedNames t) w (λ b. Agrees t (fired t w c b m) (after t w c b)) (λ _. agrees) c a (granted c) cleared answers
     where
-      granted : (c : Call) → Passed t (Ordered t) w c → Agrees t (fired t w c Granted m) (after t w c Granted)
+      granted : (c : Call) → Passed t (Ordered t) w c → Agrees t (fired t w c (Ok Moved) m) (after t w c (Ok Moved))
       granted (Start k j) ok = agrees-fire t sound w k (first t j) ordered ok.0 m ok.1 agrees
       granted (Move k p) ok = agrees-fire t sound w k p ordered ok.0 m ok.1 agrees
       granted (Leave k) ok = agrees-fire t sound w k off ordered ok m (kept-removal t (claim t) (claim-le t sound) w k ok ordered) agrees
       granted Clear ok = absurd ok
 
-      cleared : (k : ℕ) → OrderedNames t w (Some k) → Agrees t (fired t w c (Cleared k) m) (after t w c (Cleared k))
+      cleared : (k : ℕ) → OrderedNames t w (Some k) → Agrees t (fired t w c (Ok (Cleared k)) m) (after t w c (Ok (Cleared k)))
       cleared k is =
           let goes = ordered-goes t sound w (Some k) is in
           agrees-fire t sound w k (stepped t (get_or w k off)) ordered (omega (arith, on_below w k goes.1, ordered.0.0)) m goes.2 agrees
@@ -77,7 +77,7 @@ module _ (t : Plan) (sound : Sound t) where
       allows : (k q : ℕ) → k < 64 → ((q ≡ off → ⊥) → q < count t) → Enabled t (marking t h) (get_or w k off) q → Ordered t (set w k q)
       allows k q lt at enabled = enabled-allowed t sound w k q ordered lt (marking t h) at agrees enabled
 
-      grants : (c : Call) → Answers t (Ordered t) (OrderedNames t) w c a → Checked t w c → Enabled t (marking t h) (source w c) (target t c) → a ≡ Granted
+      grants : (c : Call) → Answers t (Ordered t) (OrderedNames t) w c a → Checked t w c → Enabled t (marking t h) (source w c) (target t c) → a ≡ Ok Moved
       grants (Start k j) answers ok enabled =
           passed ok.0 (passed ok.1 (passed ok.2 (passed (allows k (first t j) ok.0 (λ _. sound.begins j ok.1) enabled) (λ e. e)))) answers
       grants (Move k p) answers ok enabled =
@@ -91,8 +91,8 @@ module _ (t : Plan) (sound : Sound t) where
       enables (Leave k) ok = allowed-enabled t sound w k off ordered ok (marking t h) (kept-removal t (claim t) (claim-le t sound) w k ok ordered) agrees
       enables Clear ok = absurd ok
 
-      only : a ≡ Granted → Enabled t (marking t h) (source w c) (target t c)
-      only = answered t (Ordered t) (OrderedNames t) w (λ b. b ≡ Granted → Enabled t (marking t h) (source w c) (target t c))
+      only : a ≡ Ok Moved → Enabled t (marking t h) (source w c) (target t c)
+      only = answered t (Ordered t) (OrderedNames t) w (λ b. b ≡ Ok Moved → Enabled t (marking t h) (source w c) (target t c))
           (λ n e. absurd (not-refused n e)) c a (λ ok _. enables c ok) (λ k _ e. absurd (not-cleared k e)) answers
 
       counted : (place : Place) → IsPlace t place → counts t v place ≡ marking t ((c, a) ∷ h) place

@@ -1,5 +1,5 @@
 -- The controlled net: places, transitions, and the marking that firing along a history gives.
-use Rattle.std.specs.Prelude.{◌≡◌, ℕ, ◌+◌, ◌-◌, ◌<◌, ◌≤◌, cond, List, [], ◌∷◌, sum_by, Option, ◌==◌, slice_index_or}
+use Rattle.std.specs.Prelude.{◌≡◌, ℕ, ◌+◌, ◌-◌, ◌<◌, ◌≤◌, cond, List, [], ◌∷◌, sum_by, Option, ◌==◌, slice_index_or, Ok, Err}
 use Rattle.std.specs.List.{ContainsAt as Has}
 use Rattle.tables.specs.Plan.{Plan, kinds, routes, count, capacity, first, need}
 use Rattle.figures.specs.Claims.{claim}
@@ -8,8 +8,8 @@ use Rattle.rules.specs.Placing.{On, held, total}
 use Rattle.rules.specs.Ordered.{Ordered, OrderedNames}
 use Rattle.history.specs.declared.calls.Call.{Call}
 use Rattle.history.specs.declared.calls.Call.TheVariants.{Start, Move, Leave, Clear}
-use Rattle.history.specs.declared.calls.Answer.{Answer}
-use Rattle.history.specs.declared.calls.Answer.TheVariants.{Granted, Cleared, Refused}
+use Rattle.history.specs.Answer.{Answer}
+use Rattle.history.specs.declared.calls.Granted.TheVariants.{Moved, Cleared}
 use Rattle.history.specs.Calls.{next_of, Answers, after}
 use Rattle.history.specs.History.{History, placing, Stands, Promised}
 
@@ -77,9 +77,9 @@ source w c = slice_index_or w (piece_of c) off
 
 -- a granted start, move or leave fires its transition, a granted clear that of its step home
 abbrev pub fired : Plan → List ℕ → Call → Answer → Marking → Marking
-fired t w c Granted m = fire t (source w c) (target t c) m
-fired t w c (Cleared k) m = fire t (slice_index_or w k off) (stepped t (slice_index_or w k off)) m
-fired t w c (Refused n) m = m
+fired t w c (Ok Moved) m = fire t (source w c) (target t c) m
+fired t w c (Ok (Cleared k)) m = fire t (slice_index_or w k off) (stepped t (slice_index_or w k off)) m
+fired t w c (Err n) m = m
 
 -- the marking that firing along a history gives
 abbrev pub marking : Plan → History → Marking
@@ -103,8 +103,8 @@ Checked t w Clear = ⊥
 -- of every history that stands at w: the checks passed, the call is granted exactly if its transition is enabled in the history's marking;
 -- and after the call every place has what firing gives
 pub record AsTheNet (t : Plan) (allowed : List ℕ → Type 0) (named : List ℕ → Option ℕ → Type 0) (w : List ℕ) (c : Call) (a : Answer) (v : List ℕ) : Type 0 where
-  pub grants : (h : History) → Stands t allowed named h w → Checked t w c → Enabled t (marking t h) (source w c) (target t c) → a ≡ Granted
-  pub only : (h : History) → Stands t allowed named h w → Checked t w c → a ≡ Granted → Enabled t (marking t h) (source w c) (target t c)
+  pub grants : (h : History) → Stands t allowed named h w → Checked t w c → Enabled t (marking t h) (source w c) (target t c) → a ≡ Ok Moved
+  pub only : (h : History) → Stands t allowed named h w → Checked t w c → a ≡ Ok Moved → Enabled t (marking t h) (source w c) (target t c)
   pub counted : (h : History) → Stands t allowed named h w → (place : Place) → IsPlace t place → counts t v place ≡ marking t ((c, a) ∷ h) place
 
 -- what a call under the ordered rule promises, from placing w to placing v

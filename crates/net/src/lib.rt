@@ -9,17 +9,10 @@ use console::console::Console;
 use history::calls::{Answer, Call};
 use rules::ordered::OrderedRule;
 
-fn make(console: &mut Console<OrderedRule>, call: Call) -> Answer
-    ensures stage { console.new.stage ≡ console.old.stage }
-    ensures call { OrderedCall (plan console.old.stage.tables) console.old.placing call result console.new.placing }
-{
-    console.call(call)
-}
-
-// Makes a call under the ordered rule.
+// Makes a call under the ordered rule, of which there is one value, so that only the stage is said to stay.
 pub fn ordered_call(console: &mut Console<OrderedRule>, call: Call) -> Answer
     ensures stage { console.new.stage ≡ console.old.stage }
     ensures call { OrderedCall (plan console.old.stage.tables) console.old.placing call result console.new.placing }
 {
-    make(console, call)
+    console.call(call)
 }

@@ -1,5 +1,6 @@
 // The figures of worked pairs, and the sheets on rows of every kind.
 use crate::open;
+use fields::spot::Pair;
 use figures::claim::Claim;
 use figures::stage::Stage;
 use refusals::Refusal;
@@ -30,7 +31,7 @@ static CHOICE_SHOW: &[u8] =
     b"\x01\x00\x02S\x01 \x00\x02\x00\x05!\x00\x05\x01\x01\x00\x00\x02!\x00\x06\x02\x03\x02\x00\x00\x03!\x00\x08\x01\x04\x00\x00\x01\x02\x00\x01!\x00\x05\x01\x04\x00\x00\x04!\x00\x04\x00\x01\x00\x01 \x00\x02\x00\x04!\x00\x05\x01\x06\x01\x00\x01!\x00\x06\x02\x07\x08\x01\x00\x03!\x00\x04\x00\x00\x00\x01!\x00\x07\x00\x01\x00\x01\x02\x00\x01\x7f\x00\x00";
 
 fn stage_of(heap: Global, venue: &[u8], show: &[u8]) -> Result<Stage, Fail> {
-    match open(Reserve::take(heap)?, venue, show) {
+    match open(Reserve::take(heap)?, Pair { venue, show }) {
         Ok(stage) => Ok(stage),
         Err(_) => Err(Fail::new("the pair is refused")),
     }
@@ -39,7 +40,7 @@ fn stage_of(heap: Global, venue: &[u8], show: &[u8]) -> Result<Stage, Fail> {
 fn number_of(answer: Result<(), Refusal>) -> u8 {
     match answer {
         Ok(_) => 0,
-        Err(refusal) => refusal.number(),
+        Err(refusal) => u8::from(refusal),
     }
 }
 

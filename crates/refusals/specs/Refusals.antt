@@ -1,6 +1,8 @@
 -- Every refusal with its number and its cause, a text in ASCII.
-use Rattle.std.specs.Prelude.{◌≡◌, ℕ, List, Some, None, codes, Option, ◌≢◌}
+use Rattle.std.specs.Prelude.{◌≡◌, ℕ, List, Some, None, codes, IfErr, Option, Result, ◌≢◌}
+use Rattle.std.specs.Result.{result_ok}
 use Rattle.refusals.specs.declared.Refusal.{Refusal}
+use Rattle.refusals.specs.declared.UnknownNumber.{UnknownNumber}
 use Rattle.refusals.specs.declared.Refusal.TheVariants.{NoSuchPiece, NoSuchRoute, AlreadyOn, NotOn, NotNext, NotLast, StageEmpty, NoRoom, NoSuchResource, RowTooShort, HeadCut, BodyCut, UnfamiliarTag, OutOfTurn, WrongLength, OutOfRange, TooMany, AfterEnd, WrongNext, NotInVenue, AboveCapacity, LineNotUnderstood, SpaceTooShort, NoSuchNumber}
 
 abbrev pub entry : Refusal → ℕ × List ℕ
@@ -39,3 +41,7 @@ cause_of r = (entry r).1
 abbrev pub Named : ℕ → Option Refusal → Type 0
 Named n (Some r) = (number_of r ≡ n) × ((s : Refusal) → number_of s ≡ n → s ≡ r)
 Named n None = (s : Refusal) → number_of s ≢ n
+
+-- so told, with the number itself where there is none
+abbrev pub NamedBy : ℕ → Result Refusal UnknownNumber → Type 0
+NamedBy n r = Named n (result_ok r) × IfErr r (λ e. e.0 ≡ n)

@@ -2,10 +2,10 @@
 #![tactic(auto)]
 
 ghost use Rattle.std.specs.Prelude.{◌≡◌};
-ghost use Rattle.refusals.specs.Refusals.{number_of, cause_of, Named};
+ghost use Rattle.refusals.specs.Refusals.{number_of, cause_of, NamedBy};
 ghost use Rattle.refusals.specs.Texts.{refusal_of, Told};
 ghost use Rattle.refusals.specs.Written.{Written};
-ghost use Rattle.refusals.specs.declared.NoText.TheVariants.{SpaceTooShort};
+ghost use Rattle.refusals.specs.declared.NoText.TheVariants.{NoSuchNumber, SpaceTooShort};
 
 #[derive(Clone, Copy, PartialEq, Eq, Debug)]
 pub enum Refusal {
@@ -36,13 +36,6 @@ pub enum Refusal {
 }
 
 impl Refusal {
-    // The number that the console gives.
-    pub fn number(self) -> u8
-        ensures { result ≡ number_of self }
-    {
-        self as u8
-    }
-
     // The cause in words, in ASCII.
     pub fn cause(self) -> &'static [u8]
         ensures { cause_of self ≡ result.now }
@@ -74,37 +67,54 @@ impl Refusal {
             Refusal::NoSuchNumber => b"no such number",
         }
     }
+}
 
-    // The one refusal with this number.
-    pub fn from_number(number: u64) -> Option<Refusal>
-        ensures { Named number result }
-    {
+// The number that the console gives.
+impl From<Refusal> for u8 {
+    ghost from_gives = { λ refusal n. n ≡ number_of refusal };
+
+    fn from(refusal: Refusal) -> u8 {
+        refusal as u8
+    }
+}
+
+// No refusal has this number.
+#[derive(Clone, Copy, PartialEq, Eq, Debug)]
+pub struct UnknownNumber(pub u64);
+
+// The one refusal with a number.
+impl TryFrom<u64> for Refusal {
+    type Error = UnknownNumber;
+
+    ghost try_from_gives = { NamedBy };
+
+    fn try_from(number: u64) -> Result<Refusal, UnknownNumber> {
         match number {
-            1 => Some(Refusal::NoSuchPiece),
-            2 => Some(Refusal::NoSuchRoute),
-            3 => Some(Refusal::AlreadyOn),
-            4 => Some(Refusal::NotOn),
-            5 => Some(Refusal::NotNext),
-            6 => Some(Refusal::NotLast),
-            7 => Some(Refusal::StageEmpty),
-            8 => Some(Refusal::NoRoom),
-            11 => Some(Refusal::NoSuchResource),
-            12 => Some(Refusal::RowTooShort),
-            21 => Some(Refusal::HeadCut),
-            22 => Some(Refusal::BodyCut),
-            23 => Some(Refusal::UnfamiliarTag),
-            24 => Some(Refusal::OutOfTurn),
-            25 => Some(Refusal::WrongLength),
-            26 => Some(Refusal::OutOfRange),
-            27 => Some(Refusal::TooMany),
-            28 => Some(Refusal::AfterEnd),
-            31 => Some(Refusal::WrongNext),
-            32 => Some(Refusal::NotInVenue),
-            33 => Some(Refusal::AboveCapacity),
-            40 => Some(Refusal::LineNotUnderstood),
-            41 => Some(Refusal::SpaceTooShort),
-            42 => Some(Refusal::NoSuchNumber),
-            _ => None,
+            1 => Ok(Refusal::NoSuchPiece),
+            2 => Ok(Refusal::NoSuchRoute),
+            3 => Ok(Refusal::AlreadyOn),
+            4 => Ok(Refusal::NotOn),
+            5 => Ok(Refusal::NotNext),
+            6 => Ok(Refusal::NotLast),
+            7 => Ok(Refusal::StageEmpty),
+            8 => Ok(Refusal::NoRoom),
+            11 => Ok(Refusal::NoSuchResource),
+            12 => Ok(Refusal::RowTooShort),
+            21 => Ok(Refusal::HeadCut),
+            22 => Ok(Refusal::BodyCut),
+            23 => Ok(Refusal::UnfamiliarTag),
+            24 => Ok(Refusal::OutOfTurn),
+            25 => Ok(Refusal::WrongLength),
+            26 => Ok(Refusal::OutOfRange),
+            27 => Ok(Refusal::TooMany),
+            28 => Ok(Refusal::AfterEnd),
+            31 => Ok(Refusal::WrongNext),
+            32 => Ok(Refusal::NotInVenue),
+            33 => Ok(Refusal::AboveCapacity),
+            40 => Ok(Refusal::LineNotUnderstood),
+            41 => Ok(Refusal::SpaceTooShort),
+            42 => Ok(Refusal::NoSuchNumber),
+            _ => Err(UnknownNumber(number)),
         }
     }
 }
@@ -122,15 +132,24 @@ pub enum NoText {
     SpaceTooShort(TooShort),
 }
 
-impl NoText {
-    // The refusal that says so.
-    pub fn refusal(self) -> Refusal
-        ensures { result ≡ refusal_of self }
-    {
-        match self {
+// The refusal that says so.
+impl From<NoText> for Refusal {
+    ghost from_gives = { λ e r. r ≡ refusal_of e };
+
+    fn from(e: NoText) -> Refusal {
+        match e {
             NoText::NoSuchNumber => Refusal::NoSuchNumber,
             NoText::SpaceTooShort(_) => Refusal::SpaceTooShort,
         }
+    }
+}
+
+// Written out, so that clauses can name what is told of either.
+impl From<UnknownNumber> for NoText {
+    ghost from_gives = { λ e r. r ≡ NoSuchNumber };
+
+    fn from(_: UnknownNumber) -> NoText {
+        Self::NoSuchNumber
     }
 }
 
@@ -159,7 +178,7 @@ fn put(content: &[u8], space: &mut [u8]) -> Result<usize, TooShort>
 pub fn text(number: u64, space: &mut [u8]) -> Result<usize, NoText>
     ensures { Told number result space.old space.new }
 {
-    let refusal = Refusal::from_number(number).ok_or(NoText::NoSuchNumber)?;
+    let refusal = Refusal::try_from(number)?;
     Ok(put(refusal.cause(), space)?)
 }
 
@@ -198,8 +217,8 @@ mod tests {
     #[test]
     fn writes_each_cause_and_leaves_the_rest(rt: HostRuntime) -> Result<(), Fail> {
         for (number, cause) in &CAUSES {
-            let refusal = Refusal::from_number(*number).ok_or("no refusal")?;
-            assert_eq!(rt; u64::from(refusal.number()), *number);
+            let refusal = Refusal::try_from(*number).map_err(|_| "no refusal")?;
+            assert_eq!(rt; u64::from(u8::from(refusal)), *number);
             let mut space = [b'.'; 32];
             assert_eq!(rt; text(*number, &mut space)?, cause.len());
             let mut expected = [b'.'; 32];
@@ -219,7 +238,7 @@ mod tests {
         let refused = NoText::SpaceTooShort(TooShort { needed: 13 });
         assert_eq!(rt; text(1, &mut short), Err(refused));
         assert_eq!(rt; short, [b'.'; 12]);
-        assert_eq!(rt; refused.refusal().number(), 41);
+        assert_eq!(rt; u8::from(Refusal::from(refused)), 41);
         Ok(())
     }
 
@@ -228,6 +247,6 @@ mod tests {
         for number in [0, 9, 43, 0x101, 0x1_0001, 0x1_0000_0001] {
             assert_eq!(rt; text(number, &mut []), Err(NoText::NoSuchNumber));
         }
-        assert_eq!(rt; NoText::NoSuchNumber.refusal().number(), 42);
+        assert_eq!(rt; u8::from(Refusal::from(NoText::NoSuchNumber)), 42);
     }
 }

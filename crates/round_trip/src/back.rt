@@ -1,6 +1,5 @@
 // Tables written back, and compared with the files that they were read from.
-ghost use Rattle.std.specs.Prelude.{◌≡◌, ℕ, ◌≤◌, List, length, IfOk};
-ghost use Rattle.refusals.specs.Written.{Written};
+ghost use Rattle.std.specs.Prelude.{◌≡◌, ℕ, List};
 ghost use Rattle.tables.specs.Contents.{Contents};
 ghost use Rattle.tables.specs.Model.{counts_of, positions_of};
 ghost use Rattle.layout.specs.Layout.{venue_file, show_file};
@@ -11,8 +10,7 @@ use crate::compare::first_difference;
 use refusals::TooShort;
 use tables::show::Show;
 use tables::venue::Venue;
-use writer::show::write_show;
-use writer::venue::write_venue;
+use writer::encode::{Encode, write};
 
 // How long a written file is, and where it first differs from another, if anywhere.
 #[derive(Clone, Copy)]
@@ -21,19 +19,14 @@ pub struct Back {
     pub differs: Option<usize>,
 }
 
-// What was written at the front of the space, compared with the bytes.
-fn compared(written: Result<usize, TooShort>, space: &[u8], bytes: &[u8]) -> Result<Back, TooShort>
-    requires { IfOk written (λ n. n ≤ length space.now) }
-    ensures compared { (file before : List ℕ) → Written written file before space.now → Compared result file bytes.now before space.now }
-    ensures same { (file before : List ℕ) → Written written file before space.now → bytes.now ≡ file → Same result }
+// Writes a file, and compares it with the bytes.
+fn written_back<F: Encode>(file: &F, bytes: &[u8], space: &mut [u8]) -> Result<Back, TooShort>
+    ensures compared { Compared result (F.layout file.now) bytes.now space.old space.new }
+    ensures same { bytes.now ≡ F.layout file.now → Same result }
 {
-    match written {
-        Ok(length) => Ok(Back {
-            length,
-            differs: first_difference(&space[0..length], bytes),
-        }),
-        Err(short) => Err(short),
-    }
+    let length = write(file, space)?;
+    let differs = first_difference(&space[0..length], bytes);
+    Ok(Back { length, differs })
 }
 
 // Writes the venue, and compares it with the bytes. Bytes that were read as this venue are the same.
@@ -41,7 +34,7 @@ pub fn venue_back(venue: &Venue, bytes: &[u8], space: &mut [u8]) -> Result<Back,
     ensures compared { Compared result (venue_file venue.now.resources.items) bytes.now space.old space.new }
     ensures same { (show : List ℕ) (c : Contents) → Laid bytes.now show c → c.resources ≡ venue.now.resources.items → Same result }
 {
-    compared(write_venue(venue, space), space, bytes)
+    written_back(venue, bytes, space)
 }
 
 // Writes the show, and compares it with the bytes. Bytes that were read as this show are the same.
@@ -49,5 +42,5 @@ pub fn show_back(show: &Show, bytes: &[u8], space: &mut [u8]) -> Result<Back, To
     ensures compared { Compared result (show_file (counts_of show.now.routes.items) (positions_of show.now.positions.items)) bytes.now space.old space.new }
     ensures same { (venue : List ℕ) (c : Contents) → Laid venue bytes.now c → c.counts ≡ counts_of show.now.routes.items → c.positions ≡ positions_of show.now.positions.items → Same result }
 {
-    compared(write_show(show, space), space, bytes)
+    written_back(show, bytes, space)
 }

@@ -1,6 +1,7 @@
 // The writers on spaces of every kind, and the way there and back.
 use crate::again::read_again;
 use crate::compare::first_difference;
+use fields::spot::Pair;
 use files::pair::read;
 use refusals::TooShort;
 use std::alloc::Global;
@@ -8,8 +9,7 @@ use std::process::Abort;
 use std::test::Fail;
 use tables::reserve::Reserve;
 use tables::tables::Tables;
-use writer::show::write_show;
-use writer::venue::write_venue;
+use writer::encode::write;
 
 static VENUE: &[u8] =
     b"\x01\x00\x02V\x01\x10\x00\x0b\x00\x01\x01lane    \x10\x00\x0b\x00\x02\x02lift    \x7f\x00\x00";
@@ -18,7 +18,11 @@ static SHOW: &[u8] =
     b"\x01\x00\x02S\x01 \x00\x02\x00\x02!\x00\x05\x01\x01\x00\x00\x01!\x00\x04\x00\x01\x00\x01 \x00\x02\x00\x02!\x00\x05\x01\x03\x01\x00\x01!\x00\x04\x00\x00\x00\x01\x7f\x00\x00";
 
 fn example(heap: Global) -> Result<Tables, Fail> {
-    match read(Reserve::take(heap)?, VENUE, SHOW) {
+    let pair = Pair {
+        venue: VENUE,
+        show: SHOW,
+    };
+    match read(Reserve::take(heap)?, pair) {
         Ok(tables) => Ok(tables),
         Err(_) => Err(Fail::new("the example is refused")),
     }
@@ -47,12 +51,12 @@ fn writes_into_any_space(rt: HostRuntime) -> Result<(), Fail> {
     let tables = example(heap)?;
     for size in [0usize, 35, 36, 37] {
         let mut space = vec![in heap; 0xaau8; size]?;
-        let written = write_venue(&tables.venue, space.as_mut_slice());
+        let written = write(&tables.venue, space.as_mut_slice());
         check_space(&rt, written, VENUE, space.as_slice());
     }
     for size in [0usize, 47, 48, 49] {
         let mut space = vec![in heap; 0xaau8; size]?;
-        let written = write_show(&tables.show, space.as_mut_slice());
+        let written = write(&tables.show, space.as_mut_slice());
         check_space(&rt, written, SHOW, space.as_slice());
     }
     Ok(())

@@ -1,9 +1,9 @@
 -- What holds of an amount that is never above the capacity.
-use Rattle.std.specs.Prelude.{◌≡◌, ℕ, ◌+◌, ◌<◌, ◌≤◌, List, slice_set}
+use Rattle.std.specs.Prelude.{ℕ, ◌<◌, ◌≤◌, List, slice_set}
 use Rattle.std.proofs.Common.{arith}
-use Rattle.tables.specs.Plan.{Plan, kinds, count, capacity}
-use Rattle.figures.specs.Placing.{off, if_on}
-use Rattle.rules.specs.Placing.{Formed, Within, nobody, total}
+use Rattle.tables.specs.Plan.{Plan, count, capacity}
+use Rattle.figures.specs.Placing.{off}
+use Rattle.rules.specs.Placing.{Formed, Within, nobody}
 use Rattle.rules.specs.Placings.{if-le, formed-nobody, formed-set, formed-off, total-nobody, total-set}
 
 module _ (t : Plan) (amount : ℕ → ℕ → ℕ) (bounded : (r p : ℕ) → amount r p ≤ capacity t r) where

@@ -1,5 +1,5 @@
 -- The ordered rule.
-use Rattle.std.specs.Prelude.{◌≡◌, ℕ, ◌<◌, ◌≤◌, cond, List, Some, None, Option, slice_index_or}
+use Rattle.std.specs.Prelude.{ℕ, ◌<◌, ◌≤◌, List, Some, None, Option, slice_index_or}
 use Rattle.tables.specs.Plan.{Plan}
 use Rattle.figures.specs.Claims.{lowest, claim}
 use Rattle.figures.specs.Placing.{off}

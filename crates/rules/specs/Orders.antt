@@ -1,18 +1,18 @@
 -- The ordered rule: what it allows fits, and the step home of the piece with the lowest lowest order is allowed.
-use Rattle.std.specs.Prelude.{◌≡◌, ℕ, ◌+◌, ◌<◌, ◌≤◌, List, [], ◌∷◌, length, get_or, Some, None, Option, ◌≢◌, slice_index_or, refl}
-use Rattle.std.proofs.Common.{sym, ap, subst, ◌∙◌, ⊎_elim, arith}
+use Rattle.std.specs.Prelude.{◌≡◌, ℕ, ◌<◌, ◌≤◌, List, [], ◌∷◌, get_or, Some, None, Option, ◌≢◌, slice_index_or, refl}
+use Rattle.std.proofs.Common.{⊎_elim, arith}
 use Rattle.std.specs.Option.{unwrap_or}
 use Rattle.std.specs.List.{AllByRecursion}
 use Rattle.std.proofs.ByRecursion.{All-from_get_or, sum_by_le}
 use Rattle.std.proofs.lemmas.Bool.{cases_eq, cases_lt, lt-ltb}
-use Rattle.tables.specs.Plan.{Plan, kinds, count, capacity, order, need}
+use Rattle.tables.specs.Plan.{Plan, count, order, need}
 use Rattle.figures.specs.Sound.{Sound}
 use Rattle.figures.specs.Way.{main, after}
 use Rattle.figures.specs.Claims.{lowest, claim, claim_along}
 use Rattle.figures.specs.Placing.{off, if_on, stepped, home_step}
 use Rattle.figures.proofs.Ways.{main-ahead}
 use Rattle.figures.proofs.Bounds.{need-le-claim, claim-le, claim-falls}
-use Rattle.rules.specs.Placing.{On, Formed, Fits, total, held}
+use Rattle.rules.specs.Placing.{Fits, total}
 use Rattle.rules.specs.Rule.{Names}
 use Rattle.rules.specs.Ordered.{Ordered, lowest_order, Lowest, OrderedNames}
 use Rattle.rules.specs.Placings.{on_below, if-on, if-off, if-le, total-set, total-le, formed-set}

@@ -1,10 +1,10 @@
 // Amounts of a resource, added up over the pieces on.
-ghost use Rattle.std.specs.Prelude.{◌≡◌, ℕ, length, Decides};
+ghost use Rattle.std.specs.Prelude.{◌≡◌, ℕ, MatchOption, Decides};
 ghost use Rattle.tables.specs.Plan.{Plan, plan, need};
 ghost use Rattle.figures.specs.Claims.{claim};
 ghost use Rattle.rules.specs.Placing.{Formed, total, Within};
 
-use crate::placing::{OFF, well_formed};
+use crate::placing::{OFF, formed};
 use figures::reads::resource_count;
 use figures::stage::Stage;
 
@@ -41,35 +41,32 @@ impl Amount for Claimed {
 }
 
 // The amounts of a resource, added up.
-pub(crate) fn total<A: Amount>(kind: &A, stage: &Stage, resource: usize, placing: &[u16]) -> u32
-    requires { length placing.now ≡ 64 }
+pub(crate) fn total<A: Amount>(kind: &A, stage: &Stage, resource: usize, placing: &[u16; 64]) -> u32
     ensures { result ≡ total (A.Amount.amount kind.now (plan stage.now.tables) resource) placing.now }
 {
-    let mut sum: u32 = 0;
-    for p in placing {
-        if *p != OFF {
-            sum += u32::from(kind.amount(stage, resource, *p));
-        }
-    }
-    sum
+    placing
+        .iter()
+        .filter(|p| **p != OFF)
+        .map(|p| u32::from(kind.amount(stage, resource, *p)))
+        .sum()
 }
 
 // Whether the amounts of each resource come to at most its capacity.
-fn all_within<A: Amount>(kind: &A, stage: &Stage, placing: &[u16]) -> bool
-    requires { length placing.now ≡ 64 }
+fn all_within<A: Amount>(kind: &A, stage: &Stage, placing: &[u16; 64]) -> bool
     ensures { Decides result (Within (plan stage.now.tables) (A.Amount.amount kind.now (plan stage.now.tables)) placing.now) }
 {
-    for resource in 0..resource_count(&stage.tables) {
-        if total(kind, stage, resource, placing) > u32::from(stage.tables.capacity(resource)) {
-            return false;
-        }
-    }
-    true
+    (0..resource_count(&stage.tables)).all(|resource| {
+        total(kind, stage, resource, placing) <= u32::from(stage.tables.capacity(resource))
+    })
 }
 
-// Whether a list is a placing whose amounts are within the capacities.
-pub(crate) fn within<A: Amount>(kind: &A, stage: &Stage, placing: &[u16]) -> bool
-    ensures { Decides result (Formed (plan stage.now.tables) placing.now × Within (plan stage.now.tables) (A.Amount.amount kind.now (plan stage.now.tables)) placing.now) }
+// The placing that a list is, if it is one whose amounts are within the capacities.
+pub(crate) fn within<'a, A: Amount>(
+    kind: &A,
+    stage: &Stage,
+    numbers: &'a [u16],
+) -> Option<&'a [u16; 64]>
+    ensures { MatchOption result (Formed (plan stage.now.tables) numbers.entry.now × Within (plan stage.now.tables) (A.Amount.amount kind.now (plan stage.now.tables)) numbers.entry.now → ⊥) (λ w. (w.now ≡ numbers.entry.now) × Formed (plan stage.now.tables) numbers.entry.now × Within (plan stage.now.tables) (A.Amount.amount kind.now (plan stage.now.tables)) numbers.entry.now) }
 {
-    well_formed(&stage.tables, placing) && all_within(kind, stage, placing)
+    formed(&stage.tables, numbers).filter(|placing| all_within(kind, stage, *placing))
 }

@@ -8,6 +8,7 @@ use crate::amounts::{Needed, within};
 use crate::rule::AdmissionRule;
 use figures::stage::Stage;
 
+// A rule of its own beside the ordered one, since each is a value by its name; what they share is `within` and the lemmas of `Kept`.
 #[derive(Drop)]
 pub struct RoomRule;
 
@@ -26,6 +27,6 @@ impl AdmissionRule for RoomRule {
 
     fn allows(&self, stage: &Stage, placing: &[u16], space: &mut [u16]) -> bool {
         space.fill(0);
-        within(&Needed, stage, placing)
+        within(&Needed, stage, placing).is_some()
     }
 }

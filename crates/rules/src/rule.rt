@@ -1,4 +1,4 @@
-// Admission rules and clearing rules. Each question is lent a working space of 64 numbers and leaves all of it zero.
+// Admission rules and clearing rules. Each question is of a stage, and is lent a placing as plain numbers and a working space of 64 numbers, all of which it leaves zero.
 ghost use Rattle.std.specs.Prelude.{◌≡◌, ℕ, ◌<◌, List, length, set, replicate, Decides, Option, slice_set};
 ghost use Rattle.tables.specs.Plan.{Plan, plan, count};
 ghost use Rattle.figures.specs.Sound.{Sound};

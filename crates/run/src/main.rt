@@ -8,26 +8,24 @@ use opening::open;
 use rules::ordered::OrderedRule;
 use session::rows::row;
 use session::session::answer_line;
+use std::io;
 use std::io::Read;
-use std::{fs, io};
 use tables::reserve::Reserve;
 use texts::refused::refusal_text;
 
-// The console, the line that is coming in, whether any of it has come, and how many lines were answered.
+// The console, the line that is coming in, if any of it has come, and how many lines were answered.
 #[derive(Drop)]
 struct Run {
     console: Console<OrderedRule>,
-    line: Pending,
-    begun: bool,
+    line: Option<Pending>,
     answered: u64,
 }
 
 impl Run {
     // Answers the line that has come.
     fn answer(&mut self, rt: &HostRuntime) -> io::Result<()> {
-        let shown = answer_line(&mut self.console, &self.line);
-        self.line = Pending::empty();
-        self.begun = false;
+        let line = self.line.take().unwrap_or_else(Pending::empty);
+        let shown = answer_line(&mut self.console, &line);
         self.answered = self.answered.saturating_add(1);
         rt.println(row(rt.alloc(), self.answered, shown)?)
     }
@@ -37,8 +35,7 @@ impl Run {
             if *byte == b'\n' {
                 self.answer(rt)?;
             } else {
-                self.line.push(*byte);
-                self.begun = true;
+                self.line.get_or_insert_with(Pending::empty).push(*byte);
             }
         }
         Ok(())
@@ -48,6 +45,7 @@ impl Run {
 // Answers each line as it comes. A last line without a newline counts.
 fn answer_lines(rt: &HostRuntime, mut run: Run) -> io::Result<()> {
     let mut input = rt.stdin();
+    // a loop that waits for input takes a bound
     for _ in 0..u64::MAX {
         let mut chunk = [0u8; 4096];
         let count = input.read(&mut chunk)?;
@@ -56,33 +54,23 @@ fn answer_lines(rt: &HostRuntime, mut run: Run) -> io::Result<()> {
         }
         run.take(rt, &chunk[0..count])?;
     }
-    if run.begun {
+    if run.line.is_some() {
         run.answer(rt)?;
     }
     Ok(())
 }
 
-// A file's bytes. A file that is not there counts as empty.
-fn bytes_of(rt: &HostRuntime, path: &str) -> io::Result<Vec<u8>> {
-    match fs::read(rt, path) {
-        Err(e) if e.kind() == io::ErrorKind::NotFound => Ok(Vec::new(rt.alloc())),
-        read => read,
-    }
-}
-
 fn main(rt: HostRuntime) -> io::Result<()> {
     let heap = rt.alloc();
-    let venue = bytes_of(&rt, "venue.bin")?;
-    let show = bytes_of(&rt, "show.bin")?;
-    let stage = match open(Reserve::take(heap)?, venue.as_slice(), show.as_slice()) {
+    let files = folder::files(&rt)?;
+    let stage = match open(Reserve::take(heap)?, files.pair()) {
         Ok(stage) => stage,
         Err(fault) => return rt.println(refusal_text(heap, fault)?),
     };
     rt.println("line answer home")?;
     let run = Run {
         console: Console::begin(stage, OrderedRule),
-        line: Pending::empty(),
-        begun: false,
+        line: None,
         answered: 0,
     };
     answer_lines(&rt, run)

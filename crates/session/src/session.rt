@@ -1,9 +1,8 @@
 // The answer to a line.
 ghost use Rattle.std.specs.Prelude.{◌≡◌, ℕ, List};
 ghost use Rattle.tables.specs.Plan.{plan};
-ghost use Rattle.figures.specs.Placing.{distance};
 ghost use Rattle.lines.specs.Front.{Holds};
-ghost use Rattle.session.specs.Session.{answer_number, LineAnswered};
+ghost use Rattle.session.specs.Session.{Answered, LineAnswered};
 
 use crate::shown::Shown;
 use console::console::Console;
@@ -13,23 +12,16 @@ use net::ordered_call;
 use refusals::Refusal;
 use rules::ordered::OrderedRule;
 
-fn number_of(answer: Answer) -> u8
-    ensures { result ≡ answer_number answer }
+// Makes the call that a line says, if it says one. There is one value of the ordered rule, so that only the stage is said to stay.
+fn answer_to(console: &mut Console<OrderedRule>, line: &Pending) -> Answer
+    ensures stage { console.new.stage ≡ console.old.stage }
+    ensures answered { (text : List ℕ) → Holds line.now text → Answered (plan console.old.stage.tables) console.old.placing text result console.new.placing }
 {
-    match answer {
-        Answer::Granted => 0,
-        Answer::Cleared(_) => 0,
-        Answer::Refused(refusal) => refusal.number(),
+    // a match, since what no call says of the line is not seen through `ok_or`
+    match line.call() {
+        Some(call) => ordered_call(console, call),
+        None => Err(Refusal::LineNotUnderstood),
     }
-}
-
-// An answer with the distance home.
-fn shown(console: &Console<OrderedRule>, answer: u8) -> Shown
-    ensures answer { result.answer ≡ answer }
-    ensures distance { result.distance ≡ distance (plan console.now.stage.tables) console.now.placing }
-{
-    let (_, distance) = console.home();
-    Shown { answer, distance }
 }
 
 // Makes the call that a line says, and gives what is shown of it.
@@ -37,11 +29,7 @@ pub fn answer_line(console: &mut Console<OrderedRule>, line: &Pending) -> Shown
     ensures stage { console.new.stage ≡ console.old.stage }
     ensures answered { (text : List ℕ) → Holds line.now text → LineAnswered (plan console.old.stage.tables) console.old.placing text result console.new.placing }
 {
-    match line.call() {
-        Some(call) => {
-            let answer = ordered_call(console, call);
-            shown(console, number_of(answer))
-        }
-        None => shown(console, Refusal::LineNotUnderstood.number()),
-    }
+    let answer = answer_to(console, line);
+    let (_, distance) = console.home();
+    Shown { answer, distance }
 }

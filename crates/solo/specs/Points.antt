@@ -1,12 +1,12 @@
 -- The points of the rule for one piece at a time.
-use Rattle.std.specs.Prelude.{◌≡◌, ℕ, ◌+◌, ◌*◌, ◌<◌, ◌≤◌, List, [], ◌∷◌, length, Some, None, Option, ◌≢◌, slice_index_or, slice_set, refl}
+use Rattle.std.specs.Prelude.{◌≡◌, ℕ, ◌+◌, ◌*◌, ◌<◌, ◌≤◌, List, [], ◌∷◌, Some, None, Option, ◌≢◌, slice_index_or, slice_set, refl}
 use Rattle.std.proofs.Common.{ap, ⊎_elim, arith, mul-add, mul-le-mul_left}
 use Rattle.std.proofs.lemmas.List.Sums.{sum_by-cons}
 use Rattle.std.proofs.lemmas.Bool.{cases_eq}
 use Rattle.tables.specs.Plan.{Plan, count, capacity, need}
 use Rattle.figures.specs.Sound.{Sound}
 use Rattle.figures.specs.Placing.{off, if_on, stepped}
-use Rattle.rules.specs.Placing.{On, Fits, total, on_count, nobody}
+use Rattle.rules.specs.Placing.{Fits, total, on_count, nobody}
 use Rattle.rules.specs.Rule.{Names}
 use Rattle.rules.specs.Placings.{on_below, if-on, if-off, if-le, total-nobody, total-set, formed-nobody, formed-set, formed-off}
 use Rattle.rules.specs.Orders.{stepped-placed}

@@ -1,14 +1,15 @@
 // A clearing rule of another house: one piece at a time.
 #![tactic(auto)]
 
-ghost use Rattle.std.specs.Prelude.{◌≡◌, ℕ, length, MatchOption};
+ghost use Rattle.std.specs.Prelude.{◌≡◌, ℕ, MatchOption};
+ghost use Rattle.tables.specs.Plan.{plan};
 ghost use Rattle.rules.specs.Placing.{On};
 ghost use Rattle.solo.specs.Solo.{Solo, SoloNames};
 ghost use Rattle.solo.specs.Points.{solo-empty, solo-alone, solo-fits, solo-removal, solo-goes};
 ghost use Rattle.std.proofs.Common.{rules};
 
 use figures::stage::Stage;
-use rules::placing::{OFF, pieces_on, well_formed};
+use rules::placing::{OFF, formed, pieces_on};
 use rules::rule::{AdmissionRule, ClearingRule};
 
 #[derive(Drop)]
@@ -29,21 +30,22 @@ impl AdmissionRule for SoloRule {
 
     fn allows(&self, stage: &Stage, placing: &[u16], space: &mut [u16]) -> bool {
         space.fill(0);
-        well_formed(&stage.tables, placing) && pieces_on(placing) <= 1
+        alone(stage, placing).is_some()
     }
 }
 
-// The first piece on.
-fn first_on(placing: &[u16]) -> Option<u8>
-    requires { length placing.now ≡ 64 }
+// The placing that a list is, if it is one with at most one piece on.
+fn alone<'a>(stage: &Stage, numbers: &'a [u16]) -> Option<&'a [u16; 64]>
+    ensures { MatchOption result (Solo (plan stage.now.tables) numbers.entry.now → ⊥) (λ w. (w.now ≡ numbers.entry.now) × Solo (plan stage.now.tables) numbers.entry.now) }
+{
+    formed(&stage.tables, numbers).filter(|placing| pieces_on(*placing) <= 1)
+}
+
+// The first piece on. A piece is below 64, so its number fits a byte.
+fn first_on(placing: &[u16; 64]) -> Option<u8>
     ensures { MatchOption result ((k : ℕ) → On placing.now k → ⊥) (λ k. On placing.now k) }
 {
-    for k in 0..64u8 {
-        if placing[usize::from(k)] != OFF {
-            return Some(k);
-        }
-    }
-    None
+    placing.iter().position(|p| *p != OFF).map(|k| k as u8)
 }
 
 impl ClearingRule for SoloRule {
@@ -52,9 +54,7 @@ impl ClearingRule for SoloRule {
     ghost goes = { λ s t w r sound. solo-goes t sound w r };
 
     fn name(&self, stage: &Stage, placing: &[u16], space: &mut [u16]) -> Option<u8> {
-        if !self.allows(stage, placing, space) {
-            return None;
-        }
-        first_on(placing)
+        space.fill(0);
+        first_on(alone(stage, placing)?)
     }
 }

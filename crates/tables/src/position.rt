@@ -7,7 +7,7 @@ use crate::nexts::Nexts;
 #[derive(Clone, Copy)]
 pub struct Position {
     pub nexts: Nexts,
-    // by resource number, 0 where none is needed
+    // by resource number, 0 where none is needed, so that a look-up is one read
     pub needs: [u16; 16],
 }
 
@@ -34,7 +34,6 @@ impl Position {
     pub fn need(&self, r: usize) -> u16
         ensures { result ≡ slice_index self.now.needs r }
     {
-        let needs = &self.needs[..];
-        if r < needs.len() { needs[r] } else { 0 }
+        self.needs.get(r).copied().unwrap_or(0)
     }
 }

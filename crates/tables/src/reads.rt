@@ -1,8 +1,8 @@
 // What later layers look up. Nothing is refused: of what there is not, there is 0.
 ghost use Rattle.std.specs.Prelude.{◌≡◌, []};
-ghost use Rattle.tables.specs.Model.{nexts_of};
 ghost use Rattle.tables.specs.Valid.{capacity_at};
-ghost use Rattle.tables.specs.Found.{part_or, order_at, first_at, nexts_at, needs_at};
+ghost use Rattle.tables.specs.Model.{nexts_of};
+ghost use Rattle.tables.specs.Found.{part_or, nexts_at, needs_at};
 ghost use Rattle.tables.specs.Plan.{plan, capacity, order, first, next, need};
 
 use crate::position::Position;
@@ -10,22 +10,7 @@ use crate::resource::Resource;
 use crate::route::Route;
 use crate::tables::Tables;
 
-// The resource with a number, if there is one.
-fn resource_at(resources: &[Resource], r: usize) -> Option<&Resource>
-    ensures capacity { capacity_at resources.now r ≡ part_or result (λ x. x.capacity) 0 }
-    ensures order { order_at resources.now r ≡ part_or result (λ x. x.order) 0 }
-{
-    resources.get(r)
-}
-
-// The route with a number, if there is one.
-fn route_at(routes: &[Route], route: usize) -> Option<&Route>
-    ensures { first_at routes.now route ≡ part_or result (λ x. x.first) 0 }
-{
-    routes.get(route)
-}
-
-// The position with a number, if there is one.
+// The position with a number, if there is one. Its parts are matched out of it below: what a closure makes of them is not seen through it.
 fn position_at(positions: &[Position], p: usize) -> Option<&Position>
     ensures nexts { nexts_at positions.now p ≡ part_or result (λ x. nexts_of x.nexts) [] }
     ensures needs { needs_at positions.now p ≡ part_or result (λ x. x.needs) [] }
@@ -37,12 +22,10 @@ fn position_at(positions: &[Position], p: usize) -> Option<&Position>
 pub fn capacity_of(resources: &[Resource], r: usize) -> u16
     ensures { result ≡ capacity_at resources.now r }
 {
-    match resource_at(resources, r) {
-        Some(resource) => resource.capacity,
-        None => 0,
-    }
+    resources.get(r).map_or(0, |resource| resource.capacity)
 }
 
+// One line each: the tables and the parts differ.
 impl Tables {
     pub fn resources(&self) -> &[Resource]
         ensures { result.now ≡ self.now.venue.resources.items }
@@ -71,20 +54,14 @@ impl Tables {
     pub fn order(&self, r: usize) -> u8
         ensures { result ≡ order (plan self.now) r }
     {
-        match resource_at(self.resources(), r) {
-            Some(resource) => resource.order,
-            None => 0,
-        }
+        self.resources().get(r).map_or(0, |resource| resource.order)
     }
 
     // The first position of a route.
     pub fn first(&self, route: usize) -> u16
         ensures { result ≡ first (plan self.now) route }
     {
-        match route_at(self.routes(), route) {
-            Some(found) => found.first,
-            None => 0,
-        }
+        self.routes().get(route).map_or(0, |found| found.first)
     }
 
     // The next positions of a position, as they were named.

@@ -59,11 +59,6 @@ claimed pairs = told (λ c. c.amount) (λ name c. string_bytes name ++ (codes " 
 abbrev pub text_of_claims : List (String Global × Claim) → List ℕ
 text_of_claims pairs = listing (codes "nothing") (codes ", ") (claimed pairs)
 
--- the claims of a position on the first n resources
-pub record ClaimsOn (t : Plan) (p n : ℕ) (claims : List Claim) : Type 0 where
-  pub all : length claims ≡ n
-  pub each : (r : ℕ) (d : Claim) → r < n → slice_index_or claims r d ≡ claim_of t r p
-
 -- the claims of a position, by resource
 pub record ClaimsAt (t : Plan) (p : ℕ) (claims : List Claim) : Type 0 where
   pub all : length claims ≡ kinds t

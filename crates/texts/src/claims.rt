@@ -12,9 +12,7 @@ use std::alloc::{AllocError, Global};
 pub fn claims_at(heap: Global, stage: &Stage, p: u16) -> Result<Vec<Claim>, AllocError>
     ensures { IfOk result (λ v. ClaimsAt (plan stage.now.tables) p v.items) }
 {
-    let mut claims = Vec::new(heap);
-    for resource in 0..resource_count(&stage.tables) {
-        claims.push(stage.claim(resource, p))?;
-    }
-    Ok(claims)
+    (0..resource_count(&stage.tables))
+        .map(|resource| stage.claim(resource, p))
+        .collect(heap)
 }

@@ -1,6 +1,5 @@
 // The names of resources.
-ghost use Rattle.std.specs.Prelude.{◌≡◌, ◌<◌, false, ◌++◌, map, IfOk, string_bytes, OnOk};
-ghost use Rattle.std.specs.Fmt.{digit_glyph};
+ghost use Rattle.std.specs.Prelude.{◌≡◌, ◌++◌, map, IfOk, string_bytes, OnOk};
 ghost use Rattle.texts.specs.Texts.{plain, shown, quotation, longest};
 
 use std::alloc::{AllocError, Global};
@@ -9,43 +8,32 @@ use tables::resource::Resource;
 fn is_plain(byte: u8) -> bool
     ensures { result ≡ plain byte }
 {
-    byte >= b' ' && byte <= b'~' && byte != b'\\'
+    matches!(byte, b' '..=b'~') && byte != b'\\'
 }
 
-fn hex_digit(nibble: u8) -> char
-    requires { nibble < 16 }
-    ensures { result ≡ digit_glyph false nibble }
-{
-    if nibble < 10 {
-        (b'0' + nibble) as char
-    } else {
-        (b'a' - 10 + nibble) as char
-    }
-}
-
-fn push_shown(text: &mut String, byte: u8) -> Result<(), AllocError>
+fn push_shown(heap: Global, text: &mut String, byte: u8) -> Result<(), AllocError>
     ensures { OnOk result (string_bytes text.new ≡ string_bytes text.old ++ shown byte) }
 {
     if is_plain(byte) {
-        return text.push(byte as char);
+        return text.push(char::from(byte));
     }
-    text.push_str("\\x")?;
-    text.push(hex_digit(byte / 16))?;
-    text.push(hex_digit(byte % 16))
+    let escaped = format!(in heap; "\\x{byte:02x}")?;
+    text.push_str(&escaped)
 }
 
-// A name between quotation marks: printable ASCII as it is, a backslash and any other byte as \xNN.
+// A name between quotation marks: printable ASCII as it is, a backslash and any other byte as \xNN. It is put together once, as the text that columns are measured by.
 pub fn quoted(heap: Global, name: &[u8]) -> Result<String, AllocError>
     ensures { IfOk result (λ s. string_bytes s ≡ quotation name.now) }
 {
     let mut text = String::from_str(heap, "\"")?;
     for byte in name {
-        push_shown(&mut text, *byte)?;
+        push_shown(heap, &mut text, *byte)?;
     }
     text.push('"')?;
     Ok(text)
 }
 
+// The names in quotation, one by one, so that it is known of each whose it is.
 pub fn names_of(heap: Global, resources: &[Resource]) -> Result<Vec<String>, AllocError>
     ensures { IfOk result (λ v. map string_bytes v.items ≡ map (λ x. quotation x.name) resources.now) }
 {
@@ -59,9 +47,5 @@ pub fn names_of(heap: Global, resources: &[Resource]) -> Result<Vec<String>, All
 pub fn widest(texts: &[String]) -> usize
     ensures { result ≡ longest texts.now }
 {
-    let mut width = 0usize;
-    for text in texts {
-        width = width.max(text.len());
-    }
-    width
+    texts.iter().fold(0, |width, text| width.max(text.len()))
 }

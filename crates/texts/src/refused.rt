@@ -6,30 +6,15 @@ ghost use Rattle.texts.specs.Texts.{text_of_refusal};
 
 use faults::fault::file_number;
 use faults::layers::FitFault;
+use fields::spot::Spot;
 use std::alloc::{AllocError, Global};
-
-fn numbers_text(
-    heap: Global,
-    file: u8,
-    number: u8,
-    place: usize,
-    byte: u8,
-) -> Result<String, AllocError>
-    ensures { IfOk result (λ s. string_bytes s ≡ text_of_refusal file number place byte) }
-{
-    format!(in heap; "{file} {number} {place} {byte}")
-}
 
 // The file, the number of the refusal, the place and the byte there.
 pub fn refusal_text(heap: Global, fault: FitFault) -> Result<String, AllocError>
     ensures { IfOk result (λ s. string_bytes s ≡ text_of_refusal (number_of_file (spot_of fault).file) (number_of (refusal_of fault)) (spot_of fault).place (spot_of fault).byte) }
 {
-    let spot = fault.spot();
-    numbers_text(
-        heap,
-        file_number(spot.file),
-        fault.refusal().number(),
-        spot.place,
-        spot.byte,
-    )
+    let Spot { file, place, byte } = fault.spot();
+    let file = file_number(file);
+    let number = u8::from(fault.refusal());
+    format!(in heap; "{file} {number} {place} {byte}")
 }

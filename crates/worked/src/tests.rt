@@ -1,4 +1,5 @@
 // The rules asked about placings of worked pairs.
+use fields::spot::Pair;
 use figures::stage::Stage;
 use home_order::HomeOrderRule;
 use opening::open;
@@ -31,7 +32,7 @@ static CROSSED: &[u8] =
     b"\x01\x00\x02S\x01 \x00\x02\x00\x03!\x00\x05\x01\x01\x00\x00\x01!\x00\x05\x01\x02\x02\x00\x01!\x00\x04\x00\x01\x00\x01 \x00\x02\x00\x02!\x00\x05\x01\x04\x01\x00\x01!\x00\x04\x00\x00\x00\x01\x7f\x00\x00";
 
 fn stage_of(heap: Global, venue: &[u8], show: &[u8]) -> Result<Stage, Fail> {
-    match open(Reserve::take(heap)?, venue, show) {
+    match open(Reserve::take(heap)?, Pair { venue, show }) {
         Ok(stage) => Ok(stage),
         Err(_) => Err(Fail::new("the pair is refused")),
     }

@@ -1,9 +1,11 @@
 -- One content put behind another.
-use Rattle.std.proofs.Common.{◌≡◌, ℕ, ◌+◌, ◌<◌, ◌≤◌, List, [], ◌∷◌, ◌++◌, length, get_or, take, drop, sym, refl, ap, ◌∙◌, subst, append_assoc, arith, length-append, length-take}
+use Rattle.std.proofs.Common.{◌/◌, ◌%◌, ◌≡◌, ℕ, ◌+◌, ◌<◌, ◌≤◌, List, [], ◌∷◌, ◌++◌, length, get_or, take, drop, sym, refl, ap, ◌∙◌, subst, append_assoc, arith, length-append, length-take, length-drop}
 use Rattle.std.specs.List.{flat_map}
 use Rattle.std.proofs.lemmas.List.{take_at, drop_at, drop-drop, take-append-drop, take_more}
+use Rattle.std.proofs.lemmas.List.Folds.{length-flat_map-take}
 use Rattle.layout.proofs.Wrote.{joined-push}
-use Rattle.writer.specs.Puts.{Puts, Front}
+use Rattle.writer.specs.declared.cursor.Cursor.{Cursor}
+use Rattle.writer.specs.Puts.{Puts, Fits, Appends}
 
 puts_none : (at : ℕ) (s : List ℕ) → Puts [] at at s s
 puts_none at s =
@@ -30,29 +32,48 @@ puts_then {a} {b} {s} {t} {u} {at} {m} {n} le p q =
           ∙ ap (λ l. take at s ++ l) (sym (append_assoc a b (drop (at + length (a ++ b)) s)));
     }
 
--- at the front of a space
-pub puts-front : {content s t : List ℕ} {m : ℕ} → Puts content 0 m s t → Front content s t
-puts-front {content} {s} {t} {m} p = let none : 0 + length content ≡ length content = omega arith in p.is ∙ ap (λ k. content ++ drop k s) none
-
-pub puts-start : {at n : ℕ} {s : List ℕ} → n ≡ at → Puts [] at n s s
-puts-start {at} {n} {s} e = subst (λ k. Puts [] at k s s) (sym e) (puts_none at s)
-
-pub puts-as : {a b s t : List ℕ} {at n : ℕ} → a ≡ b → Puts a at n s t → Puts b at n s t
-puts-as {a} {b} {s} {t} {at} {n} e p = subst (λ l. Puts l at n s t) e p
-
 -- one element more of a table that is written field by field
 pub joined-next : {X : Type 0} (f : X → List ℕ) (xs : List X) (i : ℕ) (d : X) → i < length xs → flat_map f (take i xs) ++ f (get_or xs i d) ≡ flat_map f (take (i + 1) xs)
 joined-next f xs i d lt = sym (joined-push f (take i xs) (get_or xs i d)) ∙ ap (flat_map f) (sym (take_more xs i d lt))
 
--- under other names for the end and the space
-pub puts-here : {content s t u : List ℕ} {at m n : ℕ} → n ≡ m → u ≡ t → Puts content at m s t → Puts content at n s u
-puts-here {content} {s} {t} {u} {at} {m} {n} e f p = subst (λ k. Puts content at k s u) (sym e) (subst (λ l. Puts content at m s l) (sym f) p)
+pub appends-as : {a b : List ℕ} {x y : Cursor} → a ≡ b → Appends a x y → Appends b x y
+appends-as {a} {b} {x} {y} e p = subst (λ l. Appends l x y) e p
 
-pub joined-append : {X : Type 0} (f : X → List ℕ) (xs ys : List X) → flat_map f (xs ++ ys) ≡ flat_map f xs ++ flat_map f ys
-joined-append f [] ys = refl
-joined-append f (x ∷ xs) ys = ap (λ l. f x ++ l) (joined-append f xs ys) ∙ sym (append_assoc (f x) (flat_map f xs) (flat_map f ys))
+-- the length of a space stays
+pub puts_length : {content s t : List ℕ} {at m : ℕ} → at + length content ≤ length s → Puts content at m s t → length t ≡ length s
+puts_length {content} {s} {t} {at} {m} le p =
+    let parts = length-append (take at s) (content ++ drop (at + length content) s) in
+    let more = length-append content (drop (at + length content) s) in
+    omega (arith, ap length p.is, parts, more, length-take at s, length-drop (at + length content) s)
 
-pub joined-front : {X : Type 0} (f : X → List ℕ) (xs : List X) (i : ℕ) → length (flat_map f (take i xs)) ≤ length (flat_map f xs)
-joined-front f xs i =
-    let e = ap (λ l. length (flat_map f l)) (sym (take-append-drop i xs)) ∙ ap length (joined-append f (take i xs) (drop i xs)) ∙ length-append (flat_map f (take i xs)) (flat_map f (drop i xs)) in
-    omega arith
+-- one content behind another, by a cursor
+pub appends_none : {x : Cursor} (n : ℕ) → x.at + n ≤ length x.space.now → Appends [] x x
+appends_none {x} n le = record { fits = omega (arith, le); same_reference = refl; puts = puts_none x.at x.space.now }
+
+pub appends_then : {a b : List ℕ} {x y z : Cursor} → Appends a x y → Appends b y z → Appends (a ++ b) x z
+appends_then {a} {b} {x} {y} {z} p q =
+    record {
+      fits = omega (arith, length-append a b, p.fits, q.fits, p.puts.ends, puts_length p.fits p.puts);
+      same_reference = q.same_reference ∙ p.same_reference;
+      puts = puts_then (omega (arith, p.fits)) p.puts q.puts;
+    }
+
+-- what is left of a content fits behind its front
+pub fits_next : {a : List ℕ} (b : List ℕ) {x y : Cursor} (n : ℕ) → length a + length b ≤ n → x.at + n ≤ length x.space.now → Appends a x y → Fits b y
+fits_next {a} b {x} {y} n le room p = omega (arith, p.puts.ends, puts_length p.fits p.puts)
+
+pub part-fits : {X : Type 0} (f : X → List ℕ) (xs : List X) (i : ℕ) (x : X) → i < length xs → x ≡ get_or xs i x → length (flat_map f (take i xs)) + length (f x) ≤ length (flat_map f xs)
+part-fits f xs i x lt is = subst (λ y. length (flat_map f (take i xs)) + length (f y) ≤ length (flat_map f xs)) (sym is) (length-flat_map-take f xs i x lt)
+
+pub joined-item : {X : Type 0} (f : X → List ℕ) (xs : List X) (i : ℕ) (x : X) → i < length xs → x ≡ get_or xs i x → flat_map f (take i xs) ++ f x ≡ flat_map f (take (i + 1) xs)
+joined-item f xs i x lt is = ap (λ y. flat_map f (take i xs) ++ f y) is ∙ joined-next f xs i x lt
+
+pub appends-here : {a : List ℕ} {x y z : Cursor} → z ≡ y → Appends a x y → Appends a x z
+appends-here {a} {x} e p = subst (λ c. Appends a x c) (sym e) p
+
+-- a number in two bytes, high byte first
+pub high_byte : (n : ℕ) (bytes : List ℕ) → n < 65536 → bytes ≡ (n / 256 % 256) ∷ (n % 256) ∷ [] → get_or bytes 0 0 ≡ n / 256
+high_byte n bytes lt e = ap (λ l. get_or l 0 0) e ∙ omega arith
+
+pub low_byte : (n : ℕ) (bytes : List ℕ) → bytes ≡ (n / 256 % 256) ∷ (n % 256) ∷ [] → get_or bytes 1 0 ≡ n % 256
+low_byte n bytes e = ap (λ l. get_or l 1 0) e

@@ -1,5 +1,4 @@
 pub mod Joins
 pub mod Sizes
 pub mod Needs
-pub mod Places
 pub mod Shows

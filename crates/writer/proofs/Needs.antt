@@ -1,7 +1,9 @@
 -- The needs of a row, written one by one.
-use Rattle.std.proofs.Common.{◌≡◌, ℕ, ◌+◌, ◌/◌, ◌%◌, ◌<◌, ◌≤◌, cond, eqb, List, [], ◌∷◌, ◌++◌, length, get_or, take, drop, sym, ap, ◌∙◌, append_assoc, append-nil, arith, length-append, length-take}
+use Rattle.std.specs.Prelude.{count_by}
+use Rattle.std.proofs.lemmas.List.Sums.{sum_by-cons, count_by-le-length}
+use Rattle.std.proofs.Common.{zero, suc, refl, ◌*◌, ltb, ◌≡◌, ℕ, ◌+◌, ◌/◌, ◌%◌, ◌<◌, ◌≤◌, cond, eqb, List, [], ◌∷◌, ◌++◌, length, get_or, take, drop, sym, ap, ◌∙◌, append_assoc, append-nil, arith, length-append, length-take}
 use Rattle.std.proofs.lemmas.List.{take_more, take-append-drop}
-use Rattle.std.proofs.lemmas.Bool.{eq-eqb, ne_eqb, cond-true, cond-false}
+use Rattle.std.proofs.lemmas.Bool.{eq-eqb, ne_eqb, lt-ltb, cond-true, cond-false}
 use Rattle.layout.specs.Layout.{need_fields}
 
 abbrev pub one : ℕ → ℕ → List ℕ
@@ -39,3 +41,17 @@ pub need-front : (row : List ℕ) (i : ℕ) → length (need_fields 0 (take i ro
 need-front row i =
     let e = ap (λ l. length (need_fields 0 l)) (sym (take-append-drop i row)) ∙ ap length (need-append 0 (take i row) (drop i row)) ∙ length-append (need_fields 0 (take i row)) (need_fields (0 + length (take i row)) (drop i row)) in
     omega arith
+
+counts-one : (n : ℕ) → cond {A = ℕ} (ltb 0 (suc n)) 1 0 ≡ 1
+counts-one n = cond-true _ _ _ (lt-ltb 0 (suc n) (omega arith))
+
+takes-three : (i n : ℕ) (row : List ℕ) → length (need_fields i (suc n ∷ row)) ≡ suc (suc (suc (length (need_fields (i + 1) row))))
+takes-three i n row = ap (λ l. length (l ++ need_fields (i + 1) row)) (cond-false _ _ _ (ne_eqb (suc n) 0 (λ z. omega arith)))
+
+pub needs-counted : (i : ℕ) (row : List ℕ) → 3 * count_by (λ n. ltb 0 n) row ≡ length (need_fields i row)
+needs-counted i [] = refl
+needs-counted i (zero ∷ row) = needs-counted (i + 1) row
+needs-counted i (suc n ∷ row) = omega (arith, needs-counted (i + 1) row, counts-one n, takes-three i n row, sum_by-cons (λ n. cond (ltb 0 n) 1 0) (suc n) row)
+
+pub needs-most : (row : List ℕ) → length row ≤ 16 → length (need_fields 0 row) ≤ 48
+needs-most row le = omega (arith, needs-counted 0 row, count_by-le-length (λ n. ltb 0 n) row)

@@ -1,61 +1,59 @@
 -- A show's fields, route by route.
-use Rattle.std.proofs.Common.{◌≡◌, ℕ, ◌+◌, ◌*◌, ◌<◌, ◌≤◌, true, eqb, leb, List, [], ◌∷◌, ◌++◌, length, get_or, take, drop, vec_items, sum, sym, refl, ap, ◌∙◌, subst, append_assoc, append-nil, le_of_eq, arith, length-append, length-drop}
+use Rattle.std.proofs.Common.{◌≡◌, ℕ, ◌+◌, ◌*◌, ◌<◌, ◌≤◌, true, eqb, leb, List, [], ◌∷◌, ◌++◌, length, get_or, take, drop, vec_items, sum, sym, ap, ◌∙◌, append_assoc, append-nil, le_of_eq, arith, length-append, length-drop, length-take}
 use lib.ListN.{length-map}
-use Rattle.std.specs.List.{flat_map, AllByRecursion as All}
+use Rattle.std.specs.List.{flat_map}
 use Rattle.std.proofs.lemmas.List.{nil_from_length, take-append-drop, take-map, drop-map, drop_more, drop_all}
-use Rattle.std.proofs.ByRecursion.{All-append, All-take, All-drop}
+use Rattle.std.proofs.lemmas.List.Folds.{flat_map-map}
+use Rattle.std.proofs.lemmas.Grind.{flat_map-append}
 use Rattle.std.proofs.lemmas.Bool.{and_parts, eqb-true, leb-true}
 use Rattle.tables.specs.declared.position.Position.{Position}
 use Rattle.tables.specs.declared.route.Route.{Route}
 use Rattle.tables.specs.declared.show.Show.{Show}
 use Rattle.tables.specs.Model.{Pos, Chunk, chunks, pos_of, counts_of, positions_of}
-use Rattle.tables.specs.Valid.{every, nexts_ok, short, valid_position, valid_positions, valid_chunk, valid_show}
-use Rattle.layout.specs.Layout.{route_field, position_field, end_field, chunk_fields, show_file}
+use Rattle.tables.specs.Valid.{every, nexts_ok, short, valid_position, valid_positions, valid_chunk}
+use Rattle.layout.specs.Layout.{need_fields, route_field, position_field, end_field, chunk_fields, show_file}
 use Rattle.layout.proofs.Chunks.{total}
-use Rattle.writer.specs.Puts.{Puts, Narrow}
-use Rattle.writer.proofs.Joins.{puts-start, puts_then, joined-append}
+use Rattle.writer.specs.declared.cursor.Cursor.{Cursor}
+use Rattle.writer.specs.Puts.{Appends}
+use Rattle.writer.proofs.Joins.{appends_then, appends-as}
+use Rattle.writer.proofs.Needs.{needs-most}
 
-narrow-positions : (own last : ℕ) (xs : List Pos) → valid_positions own last xs ≡ true → All Narrow xs
-narrow-positions own last [] v = tt
-narrow-positions own last (x ∷ xs) v =
+-- the fields of positions, as they stand in a table
+pub laid : (ps : List Position) → flat_map (λ x. position_field (pos_of x)) ps ≡ flat_map position_field (positions_of ps)
+laid ps = sym (flat_map-map position_field pos_of ps)
+
+small-positions : (own last : ℕ) (xs : List Pos) → valid_positions own last xs ≡ true → length (flat_map position_field xs) ≤ 56 * length xs
+small-positions own last [] v = omega arith
+small-positions own last (x ∷ xs) v =
     let k = and_parts (valid_position own last x) _ v in
     let four = and_parts (leb (length x.nexts) 4) _ k.0 in
     let ahead = and_parts (nexts_ok own last x.nexts) _ four.1 in
     let long = eqb-true (length x.needs) 16 (and_parts (eqb (length x.needs) 16) (every short x.needs) ahead.1).0 in
-    (le_of_eq long, narrow-positions (own + 1) last xs k.1)
+    omega (
+      arith,
+      leb-true (length x.nexts) 4 four.0,
+      needs-most x.needs (le_of_eq long),
+      length-append x.nexts (need_fields 0 x.needs),
+      length-append (position_field x) (flat_map position_field xs),
+      small-positions (own + 1) last xs k.1,
+    )
 
 -- how many positions are left when a route's are taken
 left_over : (n : ℕ) (ns : List ℕ) (ps : List Pos) → sum (n ∷ ns) ≡ length ps → sum ns ≡ length (drop n ps)
 left_over n ns ps e = omega (arith, e, total n ns, length-drop n ps)
 
-narrow-chunks : (f : ℕ) (ns : List ℕ) (ps : List Pos) → sum ns ≡ length ps → every valid_chunk (chunks f ns ps) ≡ true → All Narrow ps
-narrow-chunks f [] ps e v = subst (All Narrow) (sym (nil_from_length ps (sym e))) tt
-narrow-chunks f (n ∷ ns) ps e v =
-    let k = and_parts (valid_chunk (record { first = f; count = n; positions = take n ps })) _ v in
-    let mine = narrow-positions f (f + n) (take n ps) (and_parts (leb 1 n) _ k.0).1 in
-    subst (All Narrow) (take-append-drop n ps) (All-append Narrow (take n ps) (drop n ps) mine (narrow-chunks (f + n) ns (drop n ps) (left_over n ns ps e) k.1))
-
--- what a valid show is known by here
-record Known (ns : List ℕ) (ps : List Pos) : Type 0 where
-  sums : sum ns ≡ length ps
-  most : length ps ≤ 128
-  routes : length ns ≤ 16
-  narrow : All Narrow ps
-
-known : (ns : List ℕ) (ps : List Pos) → valid_show ns ps ≡ true → Known ns ps
-known ns ps v =
-    let one = and_parts (leb 1 (length ns)) _ v in
-    let few = and_parts (leb (length ns) 16) _ one.1 in
-    let all = and_parts (eqb (sum ns) (length ps)) _ few.1 in
-    let most = and_parts (leb (length ps) 128) _ all.1 in
-    let sums = eqb-true (sum ns) (length ps) all.0 in
-    record { sums = sums; most = leb-true (length ps) 128 most.0; routes = leb-true (length ns) 16 few.0; narrow = narrow-chunks 0 ns ps sums most.1 }
-
 split-size : (n : ℕ) (ps : List Pos) → length (flat_map position_field ps) ≡ length (flat_map position_field (take n ps)) + length (flat_map position_field (drop n ps))
 split-size n ps =
     ap (λ l. length (flat_map position_field l)) (sym (take-append-drop n ps))
-    ∙ ap length (joined-append position_field (take n ps) (drop n ps))
+    ∙ ap length (flat_map-append position_field (take n ps) (drop n ps))
     ∙ length-append (flat_map position_field (take n ps)) (flat_map position_field (drop n ps))
+
+small-chunks : (f : ℕ) (ns : List ℕ) (ps : List Pos) → sum ns ≡ length ps → every valid_chunk (chunks f ns ps) ≡ true → length (flat_map position_field ps) ≤ 56 * length ps
+small-chunks f [] ps e v = let none = ap (λ l. length (flat_map position_field l)) (nil_from_length ps (sym e)) in omega arith
+small-chunks f (n ∷ ns) ps e v =
+    let k = and_parts (valid_chunk (record { first = f; count = n; positions = take n ps })) _ v in
+    let mine = small-positions f (f + n) (take n ps) (and_parts (leb 1 n) _ k.0).1 in
+    omega (arith, e, total n ns, mine, small-chunks (f + n) ns (drop n ps) (left_over n ns ps e) k.1, split-size n ps, length-take n ps, length-drop n ps)
 
 chunks_size : (f : ℕ) (ns : List ℕ) (ps : List Pos) → sum ns ≡ length ps → length (flat_map chunk_fields (chunks f ns ps)) ≡ 5 * length ns + length (flat_map position_field ps)
 chunks_size f [] ps e = let none = ap (λ l. length (flat_map position_field l)) (nil_from_length ps (sym e)) in omega arith
@@ -65,16 +63,57 @@ chunks_size f (n ∷ ns) ps e =
     let c : Chunk = record { first = f; count = n; positions = take n ps } in
     omega (arith, length-append (chunk_fields c) (flat_map chunk_fields (chunks (f + n) ns (drop n ps))), length-append (route_field n) (flat_map position_field (take n ps)))
 
+-- all the routes of a show with their positions
+abbrev pub whole_of : Show → List ℕ
+whole_of s = flat_map chunk_fields (chunks 0 (counts_of (vec_items s.routes)) (positions_of (vec_items s.positions)))
+
+abbrev pub file_of : Show → List ℕ
+file_of s = show_file (counts_of (vec_items s.routes)) (positions_of (vec_items s.positions))
+
+-- how many there are in a valid show, and how long its file is
+pub record Sized (s : Show) : Type 0 where
+  pub sums : sum (counts_of (vec_items s.routes)) ≡ length (positions_of (vec_items s.positions))
+  pub few : length (vec_items s.routes) ≤ 16
+  pub small : length (flat_map position_field (positions_of (vec_items s.positions))) ≤ 7168
+  pub size : length (file_of s) ≡ 8 + 5 * length (vec_items s.routes) + length (flat_map position_field (positions_of (vec_items s.positions)))
+
+pub sized : (s : Show) → Sized s
+sized s =
+    let rs = vec_items s.routes in
+    let ns = counts_of rs in
+    let ps = positions_of (vec_items s.positions) in
+    let one = and_parts (leb 1 (length ns)) _ s.valid in
+    let few = and_parts (leb (length ns) 16) _ one.1 in
+    let all = and_parts (eqb (sum ns) (length ps)) _ few.1 in
+    let most = and_parts (leb (length ps) 128) _ all.1 in
+    let sums = eqb-true (sum ns) (length ps) all.0 in
+    let routes = length-map rs (λ r. r.count) in
+    record {
+      sums = sums;
+      few = omega (arith, leb-true (length ns) 16 few.0, routes);
+      small = omega (arith, leb-true (length ps) 128 most.0, small-chunks 0 ns ps sums most.1);
+      size = omega (arith, length-append (whole_of s) end_field, chunks_size 0 ns ps sums, routes);
+    }
+
 -- where the loop over the routes stands
-pub record Going (whole : List ℕ) (routes : List Route) (j : ℕ) (left : List Position) (at end : ℕ) (s t : List ℕ) : Type 0 where
+pub record Going (whole : List ℕ) (routes : List Route) (j : ℕ) (left : List Position) (start here : Cursor) : Type 0 where
   pub done : List ℕ
   pub first : ℕ
-  pub puts : Puts done at end s t
+  pub puts : Appends done start here
   pub rest : done ++ flat_map chunk_fields (chunks first (counts_of (drop j routes)) (positions_of left)) ≡ whole
   pub sums : sum (counts_of (drop j routes)) ≡ length left
-  pub narrow : All Narrow (positions_of left)
 
-module _ {whole : List ℕ} {routes : List Route} {j : ℕ} {left : List Position} {at end : ℕ} {s t : List ℕ} (g : Going whole routes j left at end s t) (lt : j < length routes) where
+pub begun : (s : Show) (routes : List Route) (left : List Position) (x : Cursor) → routes ≡ vec_items s.routes → left ≡ vec_items s.positions → Appends [] x x → Going (whole_of s) routes 0 left x x
+begun s routes left x same-routes same none =
+    record {
+      done = [];
+      first = 0;
+      puts = none;
+      rest = λ i. flat_map chunk_fields (chunks 0 (counts_of (same-routes i)) (positions_of (same i)));
+      sums = ap (λ l. sum (counts_of l)) same-routes ∙ (sized s).sums ∙ length-map (vec_items s.positions) pos_of ∙ ap length (sym same);
+    }
+
+module _ {whole : List ℕ} {routes : List Route} {j : ℕ} {left : List Position} {start here : Cursor} (g : Going whole routes j left start here) (lt : j < length routes) where
   abbrev n : ℕ
   n = (get_or routes j (record { first = 0; count = 0 })).count
 
@@ -108,72 +147,28 @@ module _ {whole : List ℕ} {routes : List Route} {j : ℕ} {left : List Positio
       omega arith
 
   module _ (front back : List Position) (is : front ≡ take n left) (was : back ≡ drop n left) where
-    taken : positions_of front ≡ take n ps
-    taken = ap positions_of is ∙ sym (take-map pos_of n left)
-
     gone : drop n ps ≡ positions_of back
     gone = drop-map pos_of n left ∙ ap positions_of (sym was)
 
-    pub narrow-front : All Narrow (positions_of front)
-    narrow-front = subst (All Narrow) (sym taken) (All-take Narrow n ps g.narrow)
+    taken : flat_map (λ x. position_field (pos_of x)) front ≡ flat_map position_field (take n ps)
+    taken = laid front ∙ ap (flat_map position_field) (ap positions_of is ∙ sym (take-map pos_of n left))
 
-    pub room-front : length g.done + (5 + length (flat_map position_field (positions_of front))) ≤ length whole
-    room-front = subst (λ l. length g.done + (5 + length (flat_map position_field l)) ≤ length whole) (sym taken) room
+    pub room-front : length (g.done ++ route_field n) + length (flat_map (λ x. position_field (pos_of x)) front) ≤ length whole
+    room-front = omega (arith, room, length-append g.done (route_field n), ap length taken)
 
-    pub again : (h m : ℕ) (u v : List ℕ) → at ≤ length s → end ≤ length t → Puts (route_field n) end h t u → Puts (flat_map position_field (positions_of front)) h m u v → Going whole routes (j + 1) back at m s v
-    again h m u v le le' p q =
+    pub again : (x y : Cursor) → Appends (route_field n) here x → Appends (flat_map (λ x. position_field (pos_of x)) front) x y → Going whole routes (j + 1) back start y
+    again x y p q =
         record {
-          done = g.done ++ (route_field n ++ flat_map position_field (positions_of front));
+          done = g.done ++ mine;
           first = g.first + n;
-          puts = puts_then le g.puts (puts_then le' p q);
-          rest = (λ i. (g.done ++ (route_field n ++ flat_map position_field (taken i))) ++ flat_map chunk_fields (chunks (g.first + n) ns (sym gone i))) ∙ parts;
+          puts = appends_then g.puts (appends_then p (appends-as taken q));
+          rest = ap (λ l. (g.done ++ mine) ++ flat_map chunk_fields (chunks (g.first + n) ns l)) (sym gone) ∙ parts;
           sums = left_over n ns ps (sums ∙ sym (length-map left pos_of)) ∙ ap length gone ∙ length-map back pos_of;
-          narrow = subst (All Narrow) gone (All-drop Narrow n ps g.narrow);
         }
 
 -- the last route is written
-pub through : {whole : List ℕ} {routes : List Route} {j : ℕ} {left : List Position} {at end : ℕ} {s t : List ℕ} (g : Going whole routes j left at end s t) → length routes ≤ j → Puts whole at end s t
-through {whole} {routes} {j} {left} {at} {end} {s} {t} g le =
+pub through : {whole : List ℕ} {routes : List Route} {j : ℕ} {left : List Position} {start here : Cursor} (g : Going whole routes j left start here) → length routes ≤ j → Appends whole start here
+through {whole} {routes} {j} {left} {start} {here} g le =
     let none = drop_all j routes le in
     let all : g.done ≡ whole = sym (append-nil g.done) ∙ ap (λ l. g.done ++ flat_map chunk_fields (chunks g.first (counts_of l) (positions_of left))) (sym none) ∙ g.rest in
-    subst (λ l. Puts l at end s t) all g.puts
-
--- all the routes of a show with their positions
-abbrev pub whole_of : Show → List ℕ
-whole_of s = flat_map chunk_fields (chunks 0 (counts_of (vec_items s.routes)) (positions_of (vec_items s.positions)))
-
-abbrev pub file_of : Show → List ℕ
-file_of s = show_file (counts_of (vec_items s.routes)) (positions_of (vec_items s.positions))
-
--- what is known of a show's tables as they were lent
-pub record Lent (s : Show) (routes : List Route) (positions : List Position) : Type 0 where
-  pub most : length positions ≤ 128
-  pub few : length routes ≤ 16
-  pub narrow : All Narrow (positions_of positions)
-  pub size : length (file_of s) ≡ 8 + length (whole_of s)
-  pub parts : length (whole_of s) ≡ 5 * length routes + length (flat_map position_field (positions_of positions))
-  pub begun : (at : ℕ) (space : List ℕ) → Going (whole_of s) routes 0 positions at at space space
-
-pub lent : (s : Show) (routes : List Route) (positions : List Position) → routes ≡ vec_items s.routes → positions ≡ vec_items s.positions → Lent s routes positions
-lent s routes positions same-routes same =
-    let rs = vec_items s.routes in
-    let ps = vec_items s.positions in
-    let k = known (counts_of rs) (positions_of ps) s.valid in
-    let narrow : All Narrow (positions_of positions) = subst (λ l. All Narrow (positions_of l)) (sym same) k.narrow in
-    record {
-      most = omega (arith, k.most, length-map ps pos_of, ap length same);
-      few = omega (arith, k.routes, length-map rs (λ r. r.count), ap length same-routes);
-      narrow = narrow;
-      size = omega (arith, length-append (whole_of s) end_field);
-      parts = chunks_size 0 (counts_of rs) (positions_of ps) k.sums
-          ∙ ap (λ n. 5 * n + length (flat_map position_field (positions_of ps))) (length-map rs (λ r. r.count) ∙ ap length (sym same-routes))
-          ∙ ap (λ l. 5 * length routes + length (flat_map position_field (positions_of l))) (sym same);
-      begun = λ at space. record {
-        done = [];
-        first = 0;
-        puts = puts-start refl;
-        rest = λ i. flat_map chunk_fields (chunks 0 (counts_of (same-routes i)) (positions_of (same i)));
-        sums = ap (λ l. sum (counts_of l)) same-routes ∙ k.sums ∙ length-map ps pos_of ∙ ap length (sym same);
-        narrow = narrow;
-      };
-    }
+    appends-as all g.puts

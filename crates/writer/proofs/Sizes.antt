@@ -1,15 +1,10 @@
 -- How long the written parts are.
-use Rattle.std.proofs.Common.{◌≡◌, ℕ, zero, suc, ◌+◌, ◌*◌, ◌<◌, Bool, true, eqb, leb, List, [], ◌∷◌, length, get_or, refl, ap, ◌∙◌, arith, length-append}
+use Rattle.std.proofs.Common.{◌≡◌, ◌+◌, ◌*◌, true, eqb, leb, List, [], ◌∷◌, length, refl, arith, length-append}
 use Rattle.std.specs.List.{flat_map}
 use Rattle.std.proofs.lemmas.Bool.{and_parts, eqb-true}
 use Rattle.tables.specs.declared.resource.Resource.{Resource}
 use Rattle.tables.specs.Valid.{every, byte, short, valid_resource, valid_venue}
 use Rattle.layout.specs.Layout.{resource_field, end_field, venue_file}
-
-pub every-at : {X : Type 0} (p : X → Bool) (xs : List X) (i : ℕ) (d : X) → i < length xs → every p xs ≡ true → p (get_or xs i d) ≡ true
-every-at p [] i d lt e = absurd (omega arith)
-every-at p (x ∷ xs) zero d lt e = (and_parts (p x) _ e).0
-every-at p (x ∷ xs) (suc i) d lt e = every-at p xs i d (omega arith) (and_parts (p x) _ e).1
 
 name-size : (r : Resource) → valid_resource r ≡ true → length r.name ≡ 8
 name-size r v =
@@ -29,13 +24,5 @@ fields-size (r ∷ rs) e =
     let rest = fields-size rs k.1 in
     omega (arith, length-append r.name (flat_map resource_field rs))
 
--- of a valid venue, as it was lent
-module _ (rs lent : List Resource) (valid : valid_venue rs ≡ true) (same : lent ≡ rs) where
-  pub venue-size : length (venue_file rs) ≡ 8 + 14 * length lent
-  venue-size =
-      let fields = fields-size rs (resources-of rs valid) in
-      let all = length-append (flat_map resource_field rs) end_field in
-      omega (arith, ap length same)
-
-  pub name-at : (i : ℕ) → i < length lent → length (get_or lent i (record { capacity = 0; order = 0; name = [] })).name ≡ 8
-  name-at i lt = name-size (get_or lent i (record { capacity = 0; order = 0; name = [] })) (every-at valid_resource lent i _ lt (ap (every valid_resource) same ∙ resources-of rs valid))
+pub venue-size : (rs : List Resource) → valid_venue rs ≡ true → length (venue_file rs) ≡ 8 + 14 * length rs
+venue-size rs valid = omega (arith, fields-size rs (resources-of rs valid), length-append (flat_map resource_field rs) end_field)

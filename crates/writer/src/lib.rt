@@ -1,8 +1,10 @@
 // Writing venue and show files into a given space.
 #![tactic(auto)]
 
+mod cursor;
+pub mod encode;
 mod position;
-mod put;
 mod resource;
-pub mod show;
-pub mod venue;
+mod route;
+mod show;
+mod venue;

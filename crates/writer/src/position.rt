@@ -1,95 +1,55 @@
 // A position's field.
-ghost use Rattle.std.specs.Prelude.{◌≡◌, ◌+◌, ◌*◌, ◌≤◌, length};
-ghost use Rattle.tables.specs.Model.{pos_of, positions_of};
+ghost use Rattle.std.specs.Prelude.{◌≡◌, ◌+◌, ◌≤◌, length};
+ghost use Rattle.tables.specs.Model.{pos_of};
 ghost use Rattle.layout.specs.Layout.{need_fields, position_field};
-ghost use Rattle.std.specs.List.{flat_map, AllByRecursion};
-ghost use Rattle.writer.specs.Puts.{Puts, Narrow};
+ghost use Rattle.writer.specs.Puts.{Fits, Appends};
 
-use crate::put::put;
+use crate::cursor::Cursor;
+use crate::encode::Encode;
 use tables::position::Position;
 
 // How many bytes the needs take.
-fn needs_size(needs: &[u16]) -> usize
-    requires { length needs.now ≤ 16 }
+fn needs_size(needs: &[u16; 16]) -> usize
     ensures size { result ≡ length (need_fields 0 needs.now) }
     ensures most { result ≤ 48 }
 {
-    let mut size = 0;
-    for amount in needs {
+    3 * needs.iter().filter(|amount| **amount > 0).count()
+}
+
+fn put_needs(needs: &[u16; 16], out: &mut Cursor)
+    requires { Fits (need_fields 0 needs.now) out.old }
+    ensures { Appends (need_fields 0 needs.now) out.old out.new }
+{
+    for (i, amount) in needs.iter().enumerate() {
         if *amount > 0 {
-            size += 3;
+            let [high, low] = amount.to_be_bytes();
+            // There are 16 resources, so the number of one is a byte.
+            out.put(&[i as u8, high, low]);
         }
     }
-    size
 }
 
-fn put_needs(space: &mut [u8], at: usize, needs: &[u16]) -> usize
-    requires { (length needs.now ≤ 16) × (at + length (need_fields 0 needs.now) ≤ length space.old) }
-    ensures { Puts (need_fields 0 needs.now) at result space.old space.new }
+// How long the body of a position's field is: at most 53, so that two bytes hold it.
+fn body_size(x: &Position) -> u16
+    ensures size { 3 + result ≡ length (position_field (pos_of x.now)) }
+    ensures most { result ≤ 53 }
 {
-    let mut end = at;
-    for i in 0..needs.len() {
-        let amount = needs[i];
-        if amount > 0 {
-            end = put(
-                space,
-                end,
-                &[i as u8, (amount / 256) as u8, (amount % 256) as u8],
-            );
-        }
+    (1 + x.nexts.as_slice().len() + needs_size(&x.needs)) as u16
+}
+
+impl Encode for Position {
+    ghost layout = { λ x. position_field (pos_of x) };
+
+    fn size(&self) -> usize {
+        3 + usize::from(body_size(self))
     }
-    end
-}
 
-// How many bytes a position's field takes.
-fn position_size(x: &Position) -> usize
-    requires { Narrow (pos_of x.now) }
-    ensures size { result ≡ length (position_field (pos_of x.now)) }
-    ensures most { result ≤ 56 }
-{
-    4 + x.nexts.as_slice().len() + needs_size(&x.needs)
-}
-
-fn put_position(space: &mut [u8], at: usize, x: &Position) -> usize
-    requires { (Narrow (pos_of x.now)) × (at + length (position_field (pos_of x.now)) ≤ length space.old) }
-    ensures { Puts (position_field (pos_of x.now)) at result space.old space.new }
-{
-    let nexts = x.nexts.as_slice();
-    let body = position_size(x) - 3;
-    let head = put(
-        space,
-        at,
-        &[
-            0x21,
-            (body / 256) as u8,
-            (body % 256) as u8,
-            nexts.len() as u8,
-        ],
-    );
-    let needs = put(space, head, nexts);
-    put_needs(space, needs, &x.needs)
-}
-
-// How many bytes all these positions take.
-pub fn positions_size(positions: &[Position]) -> usize
-    requires { (length positions.now ≤ 128) × (AllByRecursion Narrow (positions_of positions.now)) }
-    ensures size { result ≡ length (flat_map position_field (positions_of positions.now)) }
-    ensures most { result ≤ 56 * length positions.now }
-{
-    let mut total = 0;
-    for x in positions {
-        total += position_size(x);
+    fn put(&self, out: &mut Cursor) {
+        let nexts = self.nexts.as_slice();
+        let [high, low] = body_size(self).to_be_bytes();
+        // There are four next positions at most, so their count is a byte.
+        out.put(&[0x21, high, low, nexts.len() as u8]);
+        out.put(nexts);
+        put_needs(&self.needs, out);
     }
-    total
-}
-
-pub fn put_positions(space: &mut [u8], at: usize, positions: &[Position]) -> usize
-    requires { (AllByRecursion Narrow (positions_of positions.now)) × (at + length (flat_map position_field (positions_of positions.now)) ≤ length space.old) }
-    ensures { Puts (flat_map position_field (positions_of positions.now)) at result space.old space.new }
-{
-    let mut end = at;
-    for x in positions {
-        end = put_position(space, end, x);
-    }
-    end
 }

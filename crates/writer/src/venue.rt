@@ -1,42 +1,20 @@
 // The venue file.
-ghost use Rattle.std.specs.Prelude.{◌≡◌, ◌≤◌, length};
-ghost use Rattle.refusals.specs.Written.{Written};
 ghost use Rattle.layout.specs.Layout.{venue_file};
-ghost use Rattle.writer.specs.Puts.{Front};
 
-use crate::put::put;
-use crate::resource::put_resource;
-use refusals::TooShort;
+use crate::cursor::Cursor;
+use crate::encode::{Encode, put_all};
 use tables::venue::Venue;
 
-// How long the venue file is.
-fn venue_size(venue: &Venue) -> usize
-    ensures { result ≡ length (venue_file venue.now.resources.items) }
-{
-    8 + 14 * venue.resources.as_slice().len()
-}
+impl Encode for Venue {
+    ghost layout = { λ v. venue_file v.resources.items };
 
-// Puts the venue file at the front of the space.
-fn put_venue(space: &mut [u8], venue: &Venue)
-    requires { length (venue_file venue.now.resources.items) ≤ length space.old }
-    ensures { Front (venue_file venue.now.resources.items) space.old space.new }
-{
-    let resources = venue.resources.as_slice();
-    let mut at = put(space, 0, &[0x01, 0, 2, 0x56, 1]);
-    for r in resources {
-        at = put_resource(space, at, r);
+    fn size(&self) -> usize {
+        8 + 14 * self.resources.len()
     }
-    put(space, at, &[0x7f, 0, 0]);
-}
 
-// Writes the venue file at the front of the space, and answers its length.
-pub fn write_venue(venue: &Venue, space: &mut [u8]) -> Result<usize, TooShort>
-    ensures { Written result (venue_file venue.now.resources.items) space.old space.new }
-{
-    let needed = venue_size(venue);
-    if space.len() < needed {
-        return Err(TooShort { needed });
+    fn put(&self, out: &mut Cursor) {
+        out.put(&[0x01, 0, 2, 0x56, 1]);
+        put_all(self.resources.as_slice(), out);
+        out.put(&[0x7f, 0, 0]);
     }
-    put_venue(space, venue);
-    Ok(needed)
 }

@@ -1,32 +1,25 @@
-use Rattle.std.proofs.Common.{get_or, ap, ◌∙◌, arith, take_all}
-use Rattle.std.proofs.lemmas.List.Sums.{sum_by_more}
+use Rattle.std.proofs.Common.{◌≡◌, not, ◌==◌, ◌∙◌, arith, rules, tests}
+use Rattle.std.proofs.lemmas.Iterator.{YieldsList-from_slice, YieldsList-from_map}
+use Rattle.std.proofs.lemmas.Iterator.Adapters.{fits_from_length, at_most_from_yields_List, at_most_from_Filter}
+use Rattle.std.proofs.lemmas.Iterator.Consumers.{YieldsList-at, YieldsList-from_filter, sum_from_yields_List}
 use Rattle.tables.specs.Plan.{plan}
 use Rattle.figures.specs.Way.{way_length}
-use Rattle.figures.specs.Placing.{if_on, distance}
+use Rattle.figures.specs.Placing.{off}
 use Rattle.figures.proofs.Sounds.{sound}
 use Rattle.figures.proofs.Lengths.{length-any}
-use Rattle.rules.specs.Placings.{if-on, if-off}
+use Rattle.rules.proofs.Chains.{total-chain}
 use Rattle.console.proofs.questions.distance.Goals as goal
-use Rattle.console.proofs.questions.distance.Goals.{then-p, else-p}
 
-pub overflow_add-sum : goal.overflow_add-sum
-overflow_add-sum c =
+pub sum-requires-clause-fits : goal.sum-requires-clause-fits
+sum-requires-clause-fits c =
     let tables = c.args.stage.now.tables in
-    omega (arith, c.length-sum.ensures, length-any (plan tables) (sound tables) (get_or c.args.placing.now c.loop-p.p-index 0))
-
-pub loop-p-preserved : goal.loop-p-preserved
-loop-p-preserved c =
-    let tables = c.args.stage.now.tables in
-    let f = way_length (plan tables) in
-    let w = c.args.placing.now in
-    let p = get_or w c.loop-p.p-index 0 in
-    let more = sum_by_more (if_on f) w c.loop-p.p-index 0 (omega (arith, c.told-placing)) in
-    elim c.if-p.branch [
-      | then-p v ↦
-          let read = v.length-sum.ensures in
-          (omega (arith, read, if-on f p v.if-p.true, more, v.sum-is), omega (arith, read, v.sum-is, length-any (plan tables) (sound tables) p))
-      | else-p v ↦ (omega (arith, if-off f p v.if-p.false, more, v.sum-is), omega (arith, v.sum-is))
-    ]
+    let t = plan tables in
+    fits_from_length _ _ 64 _ (at_most_from_Filter _ (at_most_from_yields_List (YieldsList-from_slice c.args.placing.now (search rules)) (omega arith))) c.map.ensures.closure (omega arith)
+    (λ x r q k. let is : r ≡ way_length t x.now = search rules in (search rules, omega (arith, is, length-any t (sound tables) x.now)))
 
 pub returns : goal.returns
-returns c = c.loop-p.invariant.0 ∙ ap (distance (plan c.args.stage.now.tables)) (take_all c.loop-p.p-index c.args.placing.now (omega (arith, c.told-placing)))
+returns c =
+    let f = way_length (plan c.args.stage.now.tables) in
+    let w = c.args.placing.now in
+    sum_from_yields_List c.map.result c.sum.result c.sum.ensures.ran (YieldsList-from_map _ f (YieldsList-at c.map.ensures.source (YieldsList-from_filter _ (λ p. not (p == off)) (YieldsList-from_slice w (cc)) c.filter.ensures.closure (λ x r q k. search (rules, tests)))) c.map.ensures.closure (λ x r q k. search (rules, tests)))
+    ∙ total-chain f w

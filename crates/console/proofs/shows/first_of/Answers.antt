@@ -1,17 +1,11 @@
-use Rattle.std.proofs.Common.{◌<◌, length, ap, ◌∙◌, arith}
-use Rattle.tables.specs.Plan.{plan, routes}
+use Rattle.std.proofs.Common.{◌≡◌, Some, subst, rules}
 use Rattle.figures.proofs.Sounds.{sound}
-use Rattle.console.proofs.Shown.{route-count}
+use Rattle.figures.proofs.Entries.{match-weaker}
+use Rattle.std.specs.Slice.{IsItemAt}
+use Rattle.console.proofs.Shown.{first-there}
 use Rattle.console.proofs.shows.first_of.Goals as goal
 
-pub returns-then-number-routes : goal.returns-then-number-routes
-returns-then-number-routes c =
+pub returns : goal.returns
+returns c =
     let t = c.args.tables.now in
-    let same = ap length c.routes.ensures ∙ route-count t in
-    let known : c.args.route < routes (plan t) = omega (arith, same, c.if-number-routes.true) in
-    (known, c.first.ensures, omega (arith, c.first.ensures, (sound t).begins c.args.route known))
-
-pub returns-else-number-routes : goal.returns-else-number-routes
-returns-else-number-routes c =
-    let same = ap length c.routes.ensures ∙ route-count c.args.tables.now in
-    omega (arith, same, c.if-number-routes.false)
+    first-there t (sound t) c.args.route c.get.result c.map.result (subst (λ rs. IsItemAt rs c.args.route c.get.result) c.routes.ensures c.get.ensures.lookup) (match-weaker c.get.result _ _ (λ x. c.map.result ≡ Some x.now.first) (λ x h. search rules) c.map.ensures.cases)

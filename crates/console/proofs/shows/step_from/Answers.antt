@@ -4,7 +4,7 @@ use Rattle.figures.proofs.Sounds.{sound}
 use Rattle.figures.proofs.Ways.{main-ahead}
 use Rattle.console.proofs.shows.step_from.Goals as goal
 
-pub overflow_cast-result : goal.overflow_cast-result
-overflow_cast-result c =
+pub map_or-requires : goal.map_or-requires
+map_or-requires c =
     let t = c.args.tables.now in
-    omega (arith, (main-ahead (plan t) (sound t) _ _ (sym c.main_next.ensures ∙ c.in-Some.is)).1, (sound t).few)
+    λ x e _ _. omega (arith, (main-ahead (plan t) (sound t) _ _ (sym c.main_next.ensures ∙ e)).1, (sound t).few)

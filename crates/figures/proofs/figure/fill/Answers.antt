@@ -2,12 +2,9 @@ use Rattle.std.proofs.Common.{◌≡◌, ◌-◌, ◌<◌, length, Some, None, s
 use Rattle.tables.specs.Plan.{plan, count}
 use Rattle.figures.specs.Way.{main, figure}
 use Rattle.figures.proofs.Sounds.{sound}
-use Rattle.figures.proofs.Ways.{main-ahead, filled_none, filled_more, figure-last, figure-before}
+use Rattle.figures.proofs.Ways.{main-ahead, filled_more, figure-last, figure-before}
 use Rattle.figures.proofs.figure.fill.Goals as goal
 use Rattle.figures.proofs.figure.fill.Goals.{in-Some, in-None}
-
-pub loop-p-init : goal.loop-p-init
-loop-p-init g c = filled_none _ _ _ _ _ c.position_count-p.ensures.is
 
 pub bounds-row-q : goal.bounds-row-q
 bounds-row-q g c =
@@ -30,9 +27,6 @@ before-requires g c =
       known = (c.in-Some.q, e, c.index-row-q.is ∙ c.loop-p.invariant.done _ _ (omega (arith, to.0)) to.1);
     }
 
-pub last-requires : goal.last-requires
-last-requires g c = record { suits = c.requires.suits; within = omega arith; last = sym c.main_next.ensures ∙ c.in-None.is }
-
 pub loop-p-preserved : goal.loop-p-preserved
 loop-p-preserved g c =
     let t = c.args.tables.now in
@@ -52,6 +46,3 @@ loop-p-preserved g c =
           w.row-is ∙ w.last.ensures ∙ sym (figure-last (plan t) (sound t) last before at h e)
     ] in
     filled_more (plan t) last before c.args.row.now c.loop-p.p c.loop-p.row c.match-main_next.row (omega arith) (omega arith) (omega arith) here c.loop-p.invariant
-
-pub returns : goal.returns
-returns g c = record { each = λ p d h. c.loop-p.invariant.done p d (omega arith) h; rest = c.loop-p.invariant.rest }

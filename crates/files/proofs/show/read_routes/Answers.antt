@@ -1,8 +1,9 @@
-use Rattle.std.proofs.Common.{sym, ap, ◌∙◌, arith}
+use Rattle.std.proofs.Common.{vec_items, sym, ap, ◌∙◌, arith}
 use Rattle.std.proofs.ByRecursion.{All-from_get_or}
 use Rattle.std.proofs.lemmas.Result.{err_from_is_err_and}
 use Rattle.fields.specs.Fields.{part_of, tag_of}
 use Rattle.fields.specs.declared.spot.File.TheVariants.{Show}
+use Rattle.tables.specs.Model.{counts_of}
 use Rattle.layout.proofs.Fronts.{Byte}
 use Rattle.layout.proofs.ShowOnly.{show-only}
 use Rattle.files.proofs.Standings.{head-bad, read-bad, end-good, end-bad, carried}
@@ -30,7 +31,7 @@ returns-then-too_many c =
     let n = c.in_ok-count.ensures in
     let is = c.in-Route.is in
     full c.loop-count.invariant (ask c.loop-count.invariant _ _ c.turn_after.ensures c.len.ensures) _ n.found _ (ap tag_of (sym is) ∙ n.moved.1.0) (ap part_of is)
-    _ _ c.len-in-Route.ensures c.len-first.ensures _ c.if-too_many.ensures c.spot-spot.ensures
+    _ _ c.len-in-Route.ensures c.len-first.ensures _ (rw c.from.ensures at c.if-too_many.ensures) c.spot-spot.ensures
 
 pub loop-count-preserved : goal.loop-count-preserved
 loop-count-preserved c =
@@ -39,9 +40,9 @@ loop-count-preserved c =
     let pushed = c.push_reserved.ensures in
     let ran = c.in_ok-read_positions-in-Route.ensures in
     again c.loop-count.invariant (ask c.loop-count.invariant _ _ c.turn_after.ensures c.len.ensures) _ n.found _ (ap tag_of (sym is) ∙ n.moved.1.0) (ap part_of is)
-    _ _ c.len-in-Route.ensures c.len-first.ensures c.if-too_many.ensures
+    _ _ c.len-in-Route.ensures c.len-first.ensures (rw c.from.ensures at c.if-too_many.ensures)
     c.table_field-in-loop-count.new.reader n.moved.0 c.push_reserved.new.self pushed.len pushed.capacity pushed.items
-    c.read_positions.new.reader c.read_positions.new.positions (ran.went _) ran.kept.0 ran.kept.1 ran.kept.2
+    c.read_positions.new.reader c.read_positions.new.positions (rw c.from.ensures at (ran.went (counts_of (vec_items c.push_reserved.new.self)))) (rw c.from.ensures at ran.kept.0) ran.kept.1 ran.kept.2
 
 pub returns-in_err-read_positions-in-Route : goal.returns-in_err-read_positions-in-Route
 returns-in_err-read_positions-in-Route c =
@@ -51,9 +52,9 @@ returns-in_err-read_positions-in-Route c =
     let q = err_from_is_err_and c.from_residual-in_err-read_positions-in-Route.result c.from_residual-in_err-read_positions-in-Route.ensures.1 in
     rw (q.1, q.2)
     (broke c.loop-count.invariant (ask c.loop-count.invariant _ _ c.turn_after.ensures c.len.ensures) _ n.found _ (ap tag_of (sym is) ∙ n.moved.1.0) (ap part_of is)
-    _ _ c.len-in-Route.ensures c.len-first.ensures c.if-too_many.ensures
+    _ _ c.len-in-Route.ensures c.len-first.ensures (rw c.from.ensures at c.if-too_many.ensures)
     c.table_field-in-loop-count.new.reader n.moved.0 c.push_reserved.new.self pushed.len pushed.capacity pushed.items
-    _ (c.in_err-read_positions-in-Route.ensures.went _))
+    _ (rw c.from.ensures at (c.in_err-read_positions-in-Route.ensures.went (counts_of (vec_items c.push_reserved.new.self)))))
 
 pub returns-in_err-table_close-in-End : goal.returns-in_err-table_close-in-End
 returns-in_err-table_close-in-End c =

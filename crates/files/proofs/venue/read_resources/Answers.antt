@@ -1,4 +1,4 @@
-use Rattle.std.proofs.Common.{[], ◌∷◌, ◌++◌, vec_items, sym, ap, ◌∙◌, arith}
+use Rattle.std.proofs.Common.{[], sym, ap, ◌∙◌, arith}
 use Rattle.std.proofs.ByRecursion.{All-from_get_or}
 use Rattle.std.proofs.lemmas.Result.{err_from_is_err_and}
 use Rattle.fields.specs.Fields.{part_of, tag_of}
@@ -6,7 +6,7 @@ use Rattle.fields.specs.declared.spot.File.TheVariants.{Venue}
 use Rattle.layout.proofs.Fronts.{Byte}
 use Rattle.layout.proofs.VenueLaw.{venue-only}
 use Rattle.files.proofs.Standings.{head-bad, read-bad, end-good, end-bad}
-use Rattle.files.proofs.VenueTurns.{start, ask, full, again}
+use Rattle.files.proofs.VenueTurns.{start, ask, again}
 use Rattle.files.proofs.venue.read_resources.Goals as goal
 
 pub returns-in_err-next : goal.returns-in_err-next
@@ -24,13 +24,6 @@ returns-in_err-capacity c =
     let q = err_from_is_err_and c.from_residual-in_err-capacity.result c.from_residual-in_err-capacity.ensures.1 in
     rw (q.1, q.2) (read-bad (ask c.loop-capacity.invariant _ _ c.turn_after.ensures c.len.ensures) _ (sym c.in_err-capacity.ensures.found))
 
-pub returns-then-is_full : goal.returns-then-is_full
-returns-then-is_full c =
-    let n = c.in_ok-capacity.ensures in
-    let is = c.in-Resource.is in
-    full c.loop-capacity.invariant (ask c.loop-capacity.invariant _ _ c.turn_after.ensures c.len.ensures) _ n.found _ _ _
-    (ap tag_of (sym is) ∙ n.shape.0) (ap part_of is) _ c.len-in-Resource.ensures _ c.if-is_full.ensures c.spot-spot.ensures
-
 pub loop-capacity-preserved : goal.loop-capacity-preserved
 loop-capacity-preserved c =
     let n = c.in_ok-capacity.ensures in
@@ -39,7 +32,7 @@ loop-capacity-preserved c =
     again c.loop-capacity.invariant (ask c.loop-capacity.invariant _ _ c.turn_after.ensures c.len.ensures) _ n.found _ _ _
     (ap tag_of (sym is) ∙ n.shape.0) (ap part_of is) _ c.len-in-Resource.ensures c.next-in-loop-capacity.new.self c.push_reserved.new.self
     c.if-is_full.ensures n.moved pushed.len pushed.capacity
-    (pushed.items ∙ ap (λ name. vec_items c.loop-capacity.resources ++ record { capacity = c.in-Resource.capacity; order = c.in-Resource.order; name = name } ∷ []) c.eight.ensures)
+    pushed.items
 
 pub returns-in_err-close-in-End : goal.returns-in_err-close-in-End
 returns-in_err-close-in-End c =

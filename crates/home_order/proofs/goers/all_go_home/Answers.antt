@@ -7,7 +7,7 @@ use Rattle.rules.specs.Placings.{on_below, read_at}
 use Rattle.home_order.specs.Sums.{Less}
 use Rattle.home_order.specs.Homes.{stuck-order}
 use Rattle.home_order.specs.Peaks.{need-held}
-use Rattle.home_order.proofs.Rests.{rest-off, fewer}
+use Rattle.home_order.proofs.Rests.{rest-off}
 use Rattle.home_order.proofs.goers.all_go_home.Goals as goal
 
 pub bounds-rest-piece : goal.bounds-rest-piece
@@ -24,12 +24,6 @@ take_off-requires c =
     let on = c.in-Some.ensures.on in
     let same = read_at rest c.from-piece.result k c.from-piece.ensures (on_below rest k on) in
     λ r known. omega (arith, ap (λ p. need (plan tables) p r) same, need-held (plan tables) (sound tables) rest k r on, c.loop-k.invariant.is r known)
-
-pub loop-k-smaller : goal.loop-k-smaller
-loop-k-smaller c =
-    let tables = c.args.stage.now.tables in
-    let less = fewer (plan tables) (sound tables) c.args.rest.now c.loop-k.sums c.loop-k.rest c.in-Some.k c.loop-k.invariant c.in-Some.ensures in
-    rw c.from-piece.ensures less
 
 pub loop-k-preserved : goal.loop-k-preserved
 loop-k-preserved c =

@@ -1,4 +1,4 @@
-use Rattle.std.proofs.Common.{◌≡◌, ◌+◌, ◌^◌, ◌<◌, ◌≤◌, take}
+use Rattle.std.proofs.Common.{◌≡◌, ◌+◌, ◌^◌, ◌≤◌, take}
 use Rattle.std.specs.List.{AllByRecursion as All}
 use Rattle.lines.specs.Lines.{Digit, value}
 use Rattle.lines.proofs.numbers.value_of.Given as goal

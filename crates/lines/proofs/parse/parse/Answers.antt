@@ -1,15 +1,8 @@
-use Rattle.std.proofs.Common.{arith}
-use Rattle.lines.proofs.Sayings.{only-start, only-move, only-leave, just-clear}
+use Rattle.lines.proofs.Sayings.{only-start, only-move}
 use Rattle.lines.proofs.parse.parse.Goals as goal
 
-pub returns-in-None : goal.returns-in-None
-returns-in-None c = only-start c.args.line.now c.in-Some.text.now c.in-Some.ensures c.in-None.ensures
+pub returns-in_err-piece : goal.returns-in_err-piece
+returns-in_err-piece c = rw c.from_residual.ensures (only-start c.args.line.now c.in-Some.text.now c.in-Some.ensures c.in_err-piece.ensures)
 
-pub returns-in-None-two_numbers : goal.returns-in-None-two_numbers
-returns-in-None-two_numbers c = only-move c.args.line.now c.in-Some-behind.text.now c.in-Some-behind.ensures c.in-None-two_numbers.ensures
-
-pub returns-in-None-number : goal.returns-in-None-number
-returns-in-None-number c = only-leave c.args.line.now c.in-Some-behind-2.text.now c.in-Some-behind-2.ensures c.in-None-number.ensures
-
-pub returns-in-Some-behind-3 : goal.returns-in-Some-behind-3
-returns-in-Some-behind-3 c = just-clear c.args.line.now c.in-Some-behind-3.text.now c.in-Some-behind-3.ensures (omega arith)
+pub returns-in_err-piece-2 : goal.returns-in_err-piece-2
+returns-in_err-piece-2 c = rw c.from_residual-in_err-piece-2.ensures (only-move c.args.line.now c.in-Some-behind.text.now c.in-Some-behind.ensures c.in_err-piece-2.ensures)

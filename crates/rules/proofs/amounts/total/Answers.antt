@@ -1,29 +1,18 @@
-use Rattle.std.proofs.Common.{◌≡◌, ℕ, ◌+◌, ◌<◌, ◌≤◌, length, get_or, take, ap, ◌∙◌, arith, take_all}
-use Rattle.std.proofs.lemmas.List.Sums.{sum_by_more}
+use Rattle.std.proofs.Common.{not, ◌==◌, ◌∙◌, arith, rules, tests}
+use Rattle.std.proofs.lemmas.Iterator.{YieldsList-from_slice, YieldsList-from_map}
+use Rattle.std.proofs.lemmas.Iterator.Consumers.{YieldsList-at, YieldsList-from_filter, sum_from_yields_List}
+use Rattle.std.proofs.lemmas.Iterator.Adapters.{fits_from_length, at_most_from_yields_List, at_most_from_Filter}
 use Rattle.tables.specs.Plan.{plan}
-use Rattle.figures.specs.Placing.{if_on}
-use Rattle.rules.specs.Placing.{total}
-use Rattle.rules.specs.Placings.{if-on, if-off}
+use Rattle.figures.specs.Placing.{off}
+use Rattle.rules.proofs.Chains.{total-chain}
 use Rattle.rules.proofs.amounts.total.Goals as goal
-use Rattle.rules.proofs.amounts.total.Goals.{then-p, else-p}
 
-pub loop-p-preserved : goal.loop-p-preserved
-loop-p-preserved g c =
-    let f = g.A.Amount.amount c.args.kind.now (plan c.args.stage.now.tables) c.args.resource in
-    let w = c.args.placing.now in
-    let p = get_or w c.loop-p.p-index 0 in
-    let more = sum_by_more (if_on f) w c.loop-p.p-index 0 c.loop-p-test.true in
-    elim c.if-p.branch [
-      | then-p v ↦
-          let is = if-on f p v.if-p.true in
-          let read = v.from-sum.ensures ∙ v.amount.ensures in
-          (omega (arith, read, is, more, v.sum-is), omega (arith, v.sum-is, v.from-sum.ensures, v.amount.type_inv))
-      | else-p v ↦
-          let is = if-off f p v.if-p.false in
-          (omega (arith, is, more, v.sum-is), omega (arith, v.sum-is))
-    ]
+pub sum-requires-clause-fits : goal.sum-requires-clause-fits
+sum-requires-clause-fits g c = fits_from_length _ _ 64 _ (at_most_from_Filter _ (at_most_from_yields_List (YieldsList-from_slice c.args.placing.now (search rules)) (omega arith))) c.map.ensures.closure (omega arith) (λ x r q k. search rules)
 
 pub returns : goal.returns
 returns g c =
     let f = g.A.Amount.amount c.args.kind.now (plan c.args.stage.now.tables) c.args.resource in
-    c.loop-p.invariant.0 ∙ ap (total f) (take_all _ c.args.placing.now c.loop-p-test.false)
+    let w = c.args.placing.now in
+    sum_from_yields_List c.map.result c.sum.result c.sum.ensures.ran (YieldsList-from_map _ f (YieldsList-at c.map.ensures.source (YieldsList-from_filter _ (λ p. not (p == off)) (YieldsList-from_slice w (cc)) c.filter.ensures.closure (λ x r q k. search (rules, tests)))) c.map.ensures.closure (λ x r q k. search (rules, tests)))
+    ∙ total-chain f w

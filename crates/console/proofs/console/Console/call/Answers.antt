@@ -9,8 +9,7 @@ returns g c =
     let tables = self.stage.tables in
     let done = c.make.ensures in
     record {
-      stage = done.stage;
-      rule = done.rule;
+      house = record { stage = done.house.stage; rule = done.house.rule };
       answer = done.answer;
       placing = done.placing;
       promise = promised (plan tables) (sound tables) _ _ c.points.ensures self.placing c.args.call c.make.result _ done.answer done.placing;

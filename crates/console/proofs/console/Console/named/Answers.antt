@@ -1,4 +1,4 @@
-use Rattle.std.proofs.Common.{ℕ, Some, None, Option, MatchOption}
+use Rattle.std.proofs.Common.{ℕ, Some, None, Option, MatchOption, rules}
 use Rattle.tables.specs.Plan.{plan}
 use Rattle.figures.proofs.Sounds.{sound}
 use Rattle.rules.specs.Placing.{On}
@@ -12,6 +12,7 @@ pub returns : goal.returns
 returns g c =
     let self = c.args.self.now in
     let t = plan self.stage.tables in
-    by_cases (g.R.ClearingRule.named self.rule t self.placing) (On self.placing) c.name.result
+    let cases = by_cases (g.R.ClearingRule.named self.rule t self.placing) (On self.placing) c.name.result
     (λ k h. (g.met.R.ClearingRule.goes self.rule t self.placing (Some k) (sound self.stage.tables) h).1)
-    c.name.ensures.answer
+    c.name.ensures.answer in
+    search rules

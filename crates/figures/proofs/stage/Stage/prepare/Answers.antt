@@ -1,25 +1,25 @@
-use Rattle.std.proofs.Common.{refl, ap, arith}
+use Rattle.std.proofs.Common.{refl, ap, ◌∙◌, arith}
 use Rattle.tables.specs.Plan.{plan}
 use Rattle.figures.proofs.Sounds.{sound}
+use Rattle.figures.proofs.Lengths.{length-figure}
+use Rattle.figures.proofs.Lowest.{lowest-figure}
 use Rattle.figures.proofs.Lawful.{laws}
 use Rattle.figures.proofs.stage.Stage.prepare.Goals as goal
 
-pub fill_claims-requires : goal.fill_claims-requires
-fill_claims-requires c =
+pub resources_of-resources-requires : goal.resources_of-resources-requires
+resources_of-resources-requires c =
     let all = sound c.args.tables in
-    record { lowest = record { each = c.lowest_of-lowest.ensures; long = omega (arith, all.few); few = all.few }; long = all.sixteen }
-
-pub fill_peaks-requires : goal.fill_peaks-requires
-fill_peaks-requires c = (sound c.args.tables).sixteen
+    record { each = λ p lt. c.row_of-lowest.ensures.each p 0 lt ∙ lowest-figure (plan c.args.tables) p; long = omega (arith, all.few); few = all.few }
 
 pub invariant_of-result : goal.invariant_of-result
 invariant_of-result c =
+    let held = c.resources_of-resources.ensures in
     record {
-      lengths_held = c.lengths_of-lengths.ensures;
-      lowest_held = c.lowest_of-lowest.ensures;
-      amounts_held = λ r p h. ap (λ x. x.amount) (c.fill_claims.ensures r p h.0 h.1);
-      setters_held = λ r p h. ap (λ x. x.position) (c.fill_claims.ensures r p h.0 h.1);
-      peaks_held = λ r p h. c.fill_peaks.ensures r p h.0 h.1;
+      lengths_held = λ p lt. c.row_of-lengths.ensures.each p 0 lt ∙ length-figure (plan c.args.tables) p;
+      lowest_held = λ p lt. c.row_of-lowest.ensures.each p 0 lt ∙ lowest-figure (plan c.args.tables) p;
+      amounts_held = λ r p h. ap (λ x. x.amount) ((held r h.0).claims p h.1);
+      setters_held = λ r p h. ap (λ x. x.position) ((held r h.0).claims p h.1);
+      peaks_held = λ r p h. (held r h.0).peaks p h.1;
     }
 
 pub returns : goal.returns
