@@ -1,5 +1,6 @@
 -- What is written of a case, after its label.
 use Rattle.std.specs.Prelude.{ℕ, List, ◌++◌, Some, None, Ok, Err, codes, decimal, Option, Result}
+use Rattle.std.specs.Option.{unwrap_or}
 use Rattle.refusals.specs.declared.TooShort.{TooShort}
 use Rattle.round_trip.specs.declared.back.Back.{Back}
 
@@ -20,3 +21,7 @@ if_same (Some i) n = None
 abbrev pub length_of : Result Back TooShort → Option ℕ
 length_of (Ok b) = if_same b.differs b.length
 length_of (Err e) = None
+
+-- what is written of it: 0 for a file that did not come back, since no file is empty
+abbrev pub length_told : Result Back TooShort → ℕ
+length_told back = unwrap_or (length_of back) 0

@@ -28,9 +28,11 @@ fn halves(text: &str) -> Option<(&str, &str)>
 fn pair_of(heap: Global, venue: &str, show: &str) -> Result<Option<Files>, AllocError>
     ensures { (text : List ℕ) → Cut text venue.now show.now → IfOk result (λ o. ReadsPair text (option_map (λ f. (f.venue.items, f.show.items)) o)) }
 {
-    let venue = file_of(heap, venue)?;
-    let show = file_of(heap, show)?;
-    Ok(venue.zip(show).map(|(venue, show)| Files { venue, show }))
+    // A show behind no venue is not looked at, and takes no memory.
+    let Some(venue) = file_of(heap, venue)? else {
+        return Ok(None);
+    };
+    Ok(file_of(heap, show)?.map(|show| Files { venue, show }))
 }
 
 // The venue file, a space, and the show file. A text without a space is no want of memory, so `?` does not hand it on.

@@ -4,7 +4,7 @@
 
 use case_lines::case::files_of;
 use case_lines::verdict::{Accepted, Refused};
-use case_lines::written::length_of;
+use case_lines::written::length_told;
 use fields::spot::Pair;
 use files::pair::read;
 use round_trip::back::{show_back, venue_back};
@@ -23,12 +23,11 @@ fn answer_accepted(
     let mut space = vec![in rt.alloc(); 0u8; pair.venue.len().max(pair.show.len())]?;
     let venue = venue_back(&tables.venue, pair.venue, space.as_mut_slice());
     let show = show_back(&tables.show, pair.show, space.as_mut_slice());
-    // No file is empty: 0 says of one that it did not come back.
     println!(rt;
         "{label} {} written {} {}",
         Accepted::of(tables),
-        length_of(venue).unwrap_or(0),
-        length_of(show).unwrap_or(0)
+        length_told(venue),
+        length_told(show)
     )
 }
 

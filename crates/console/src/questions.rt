@@ -18,8 +18,7 @@ fn distance(stage: &Stage, placing: &[u16; 64]) -> u16
 {
     placing
         .iter()
-        .filter(|p| **p != OFF)
-        .map(|p| stage.length(*p))
+        .map(|p| if *p == OFF { 0 } else { stage.length(*p) })
         .sum()
 }
 

@@ -1,5 +1,6 @@
 -- What is read from a row of which the first entries are figures.
-use Rattle.std.proofs.Common.{◌≡◌, ℕ, ◌<◌, ◌≤◌, List, length, get_or, Some, None, Option, sym, ap, ◌∙◌, rules}
+use Rattle.std.proofs.Common.{◌≡◌, ℕ, ◌+◌, ◌-◌, ◌<◌, ◌≤◌, List, ◌++◌, length, drop, get_or, Some, None, Option, sym, ap, ◌∙◌, arith, rules}
+use Rattle.std.proofs.lemmas.List.{get_or-append-add, get_or-drop}
 use Rattle.std.specs.Borrow.{Bor}
 use Rattle.std.specs.Option.{unwrap_or, MatchOption}
 use Rattle.std.specs.Slice.{IsItemAt}
@@ -23,3 +24,10 @@ entry-in n p r rows part e d v (Some x) o item h held none past = entry-or n p (
 pub match-weaker : {X : Type 0} (o : Option X) (P : Type 0) (Q R : X → Type 0) → ((x : X) → Q x → R x) → MatchOption o P Q → MatchOption o P R
 match-weaker None P Q R f h = h
 match-weaker (Some x) P Q R f h = f x h
+
+-- behind the first n, which were worked out, stands what stood there
+pub entry-behind : {V : Type 0} (known old : List V) (n r : ℕ) (d : V) → length known ≡ n → n ≤ r → get_or (known ++ drop n old) r d ≡ get_or old r d
+entry-behind known old n r d long ge =
+    let past : r ≡ length known + (r - n) = omega (arith, long) in
+    let there : n + (r - n) ≡ r = omega arith in
+    ap (λ k. get_or (known ++ drop n old) k d) past ∙ get_or-append-add known (drop n old) (r - n) d ∙ get_or-drop n old (r - n) d ∙ ap (λ k. get_or old k d) there

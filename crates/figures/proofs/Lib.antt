@@ -5,7 +5,6 @@ pub mod Lengths
 pub mod Claimed
 pub mod Entries
 pub mod Copies
-pub mod Made
 pub mod Bounds
 pub mod Lawful
 pub mod Past

@@ -1,12 +1,13 @@
 -- The figures of what is no position, and the claims on what is no resource.
-use Rattle.std.proofs.Common.{◌≡◌, ℕ, zero, suc, ◌≤◌, max, cond, eqb, [], refl, ap, arith}
+use Rattle.std.proofs.Common.{◌≡◌, ℕ, zero, suc, ◌<◌, ◌≤◌, max, cond, eqb, [], get_or, refl, sym, ap, ◌∙◌, arith}
 use Rattle.std.proofs.lemmas.List.{get_or_past}
 use Rattle.std.proofs.lemmas.Bool.{eq-eqb}
 use Rattle.std.proofs.lemmas.Bool.Decides.{nat_tests}
 use Rattle.tables.specs.Plan.{Plan, kinds, count, need}
+use Rattle.figures.specs.declared.claim.ResourceFigures.{ResourceFigures}
 use Rattle.figures.specs.Sound.{Sound}
 use Rattle.figures.specs.Way.{along, onward, after}
-use Rattle.figures.specs.Claims.{made, lowest_of, lowest, claim, claim_along, nearest, claim_of, peak}
+use Rattle.figures.specs.Claims.{made, lowest_of, lowest, claim, claim_along, nearest, claim_of, peak, FiguresHeld}
 use Rattle.figures.proofs.Bounds.{claim-le, peak-le}
 
 module _ (t : Plan) (sound : Sound t) where
@@ -39,3 +40,10 @@ module _ (t : Plan) (sound : Sound t) where
 
   pub no-peak-resource : (r p : ℕ) → kinds t ≤ r → peak t r p ≡ 0
   no-peak-resource r p ge = omega (arith, peak-le t sound r p, get_or_past t.capacities r 0 ge)
+
+  -- what claims nothing, by each position itself, and needs nothing is the figures of what is no resource
+  pub nothing-held : (r : ℕ) (held : ResourceFigures) → kinds t ≤ r → ((p : ℕ) → p < 128 → get_or held.claims p (made 0 0) ≡ made 0 p) → ((p : ℕ) → p < 128 → get_or held.peaks p 0 ≡ 0) → FiguresHeld t r held
+  nothing-held r held ge claims peaks = record {
+    claims = λ p lt. claims p (omega (arith, sound.few)) ∙ sym (no-resource r p ge);
+    peaks = λ p lt. peaks p (omega (arith, sound.few)) ∙ sym (no-peak-resource r p ge);
+  }

@@ -1,14 +1,14 @@
 // A pair of files with its figures, worked out once.
-ghost use Rattle.std.specs.Prelude.{◌≡◌, ℕ, ◌<◌, replicate};
-ghost use Rattle.tables.specs.Plan.{plan};
+ghost use Rattle.std.specs.Prelude.{◌≡◌, ℕ, ◌<◌, ◌≤◌, replicate, slice_index, slice_index_or};
+ghost use Rattle.tables.specs.Plan.{plan, kinds, count};
 ghost use Rattle.figures.specs.Way.{LengthsHeld, Filled};
-ghost use Rattle.figures.specs.Claims.{LowestHeld, LowestOrders, of_resource, FiguresHeld, AmountsHeld, SettersHeld, PeaksHeld};
+ghost use Rattle.figures.specs.Claims.{LowestHeld, LowestOrders, made, claim_of, peak, of_resource, FiguresHeld, AmountsHeld, SettersHeld, PeaksHeld};
 ghost use Rattle.figures.specs.Laws.{Laws};
 
 use crate::claim::{Claim, ResourceFigures};
 use crate::figure::{Figure, fill};
 use crate::kinds::{Claims, Lengths, Lowest, Peaks};
-use std::array;
+use crate::reads::resource_count;
 use tables::tables::Tables;
 
 // A row of lengths and one of lowest orders: each is filled by the one scan, and a sheet copies one.
@@ -35,27 +35,53 @@ fn row_of<F: Figure>(kind: &F, tables: &Tables, blank: F::Value) -> [F::Value; 1
     row
 }
 
-// The figures of one resource, over the lowest orders of the positions.
-fn figures_of(resource: usize, tables: &Tables, lowest: &[u16; 128]) -> ResourceFigures
+// Works out the claims on one resource in place, over the lowest orders of the positions.
+fn fill_claims(resource: usize, tables: &Tables, lowest: &[u16; 128], row: &mut [Claim; 128])
     requires { LowestOrders (plan tables.now) lowest.now }
-    ensures { FiguresHeld (plan tables.now) resource result }
+    ensures { (p : ℕ) → p < count (plan tables.now) → slice_index_or row.new p (made 0 0) ≡ claim_of (plan tables.now) resource p }
 {
-    let unset = Claim {
+    fill(&Claims { resource, lowest }, tables, row);
+}
+
+// And its peak needs.
+fn fill_peaks(resource: usize, tables: &Tables, row: &mut [u16; 128])
+    ensures { (p : ℕ) → p < count (plan tables.now) → slice_index row.new p ≡ peak (plan tables.now) resource p }
+{
+    fill(&Peaks { resource }, tables, row);
+}
+
+// The figures of a resource that the venue has not: each position claims nothing of it, which it sets itself.
+fn no_figures() -> ResourceFigures
+    ensures claims { (p : ℕ) → p < 128 → slice_index_or result.claims p (made 0 0) ≡ made 0 p }
+    ensures peaks { result.peaks ≡ replicate 128 0 }
+{
+    let mut claims = [Claim {
         amount: 0,
         position: 0,
-    };
+    }; 128];
+    for (p, claim) in claims.iter_mut().enumerate() {
+        *claim = Claim {
+            amount: 0,
+            position: p as u16,
+        };
+    }
     ResourceFigures {
-        claims: row_of(&Claims { resource, lowest }, tables, unset),
-        peaks: row_of(&Peaks { resource }, tables, 0),
+        claims,
+        peaks: [0; 128],
     }
 }
 
-// The figures of each resource.
-fn resources_of(tables: &Tables, lowest: &[u16; 128]) -> [ResourceFigures; 16]
+// Works out the figures of each resource that the venue has, and leaves those behind them.
+fn fill_resources(tables: &Tables, lowest: &[u16; 128], rows: &mut [ResourceFigures; 16])
     requires { LowestOrders (plan tables.now) lowest.now }
-    ensures { (r : ℕ) → r < 16 → FiguresHeld (plan tables.now) r (of_resource result r) }
+    ensures held { (r : ℕ) → r < kinds (plan tables.now) → FiguresHeld (plan tables.now) r (of_resource rows.new r) }
+    ensures rest { (r : ℕ) → kinds (plan tables.now) ≤ r → of_resource rows.new r ≡ of_resource rows.old r }
 {
-    array::from_fn(|resource| figures_of(resource, tables, lowest))
+    let known = &mut rows[..resource_count(tables)];
+    for (resource, row) in known.iter_mut().enumerate() {
+        fill_claims(resource, tables, lowest, &mut row.claims);
+        fill_peaks(resource, tables, &mut row.peaks);
+    }
 }
 
 impl Stage {
@@ -66,7 +92,8 @@ impl Stage {
     {
         let lengths = row_of(&Lengths, &tables, 0);
         let lowest = row_of(&Lowest, &tables, 0);
-        let resources = resources_of(&tables, &lowest);
+        let mut resources = [no_figures(); 16];
+        fill_resources(&tables, &lowest, &mut resources);
         Stage {
             tables,
             lengths,

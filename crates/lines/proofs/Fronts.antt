@@ -1,6 +1,7 @@
 -- The front of a line is enough.
-use Rattle.std.proofs.Common.{◌≡◌, ℕ, ◌<◌, ◌≤◌, List, [], ◌∷◌, ◌++◌, length, take, Some, None, codes, Option, sym, ap, ◌∙◌, subst, arith, length-append, length-take, take_all, MatchOption}
-use lib.Seq.{take-append-le}
+use Rattle.std.proofs.Common.{◌≡◌, ℕ, ◌+◌, ◌<◌, ◌≤◌, List, [], ◌∷◌, ◌++◌, length, get_or, take, set, Some, None, codes, Option, sym, refl, ap, ◌∙◌, subst, arith, length-append, length-set, length-take, length-take-le, take_all, get_or-set_same, MatchOption}
+use lib.Seq.{take-append-le, take-set-le}
+use Rattle.std.proofs.lemmas.List.{take_more}
 use Rattle.history.specs.declared.calls.Call.{Call}
 use Rattle.history.specs.declared.calls.Call.TheVariants.{Start, Move, Leave, Clear}
 use Rattle.lines.specs.Lines.{Numbers, space, Says}
@@ -27,11 +28,18 @@ module _ (line : List ℕ) where
       subst (λ x. Says x c) (e ∙ whole (subst (λ x. length x ≤ 17) e short)) s
 
   -- another byte, while there is room, and once there is none
-  module _ (kept : List ℕ) (byte : ℕ) (held : kept ≡ take 18 line) where
-    pub front-more : length kept < 18 → kept ++ byte ∷ [] ≡ take 18 (line ++ byte ∷ [])
+  module _ (bytes : List ℕ) (n byte : ℕ) (long : length bytes ≡ 18) (held : take n bytes ≡ take 18 line) where
+    pub front-more : n < 18 → take (n + 1) (set bytes n byte) ≡ take 18 (line ++ byte ∷ [])
     front-more lt =
-        let same : kept ≡ line = held ∙ whole (omega (arith, ap length held)) in
-        ap (λ xs. xs ++ byte ∷ []) same ∙ sym (take_all 18 (line ++ byte ∷ []) (omega (arith, length-append line (byte ∷ []), ap length same)))
+        let size : length (take n bytes) ≡ n = length-take-le n bytes (omega arith) in
+        let same : take n bytes ≡ line = held ∙ whole (omega (arith, ap length held)) in
+        let known : n < length (set bytes n byte) = omega (arith, length-set bytes n byte) in
+        take_more (set bytes n byte) n 0 known
+        ∙ ap (λ xs. xs ++ get_or (set bytes n byte) n 0 ∷ []) (take-set-le n bytes n byte (omega arith) ∙ same)
+        ∙ ap (λ x. line ++ x ∷ []) (get_or-set_same bytes n byte 0 (omega arith))
+        ∙ sym (take_all 18 (line ++ byte ∷ []) (omega (arith, length-append line (byte ∷ []), ap length same)))
 
-    pub front-full : 18 ≤ length kept → kept ≡ take 18 (line ++ byte ∷ [])
-    front-full ge = held ∙ sym (take-append-le 18 line (byte ∷ []) (omega (arith, ap length held, length-take 18 line)))
+    pub front-full : 18 ≤ n → take n bytes ≡ take 18 (line ++ byte ∷ [])
+    front-full ge =
+        let all : take n bytes ≡ bytes = take_all n bytes (omega arith) in
+        held ∙ sym (take-append-le 18 line (byte ∷ []) (omega (arith, ap length (sym all ∙ held), length-take 18 line)))

@@ -4,4 +4,4 @@ use Rattle.lines.specs.declared.pending.Pending.{Pending}
 
 -- what is kept are the first 18 bytes of the line
 abbrev pub Holds : Pending → List ℕ → Type 0
-Holds p line = p.bytes.items ≡ take 18 line
+Holds p line = take p.count p.bytes ≡ take 18 line

@@ -6,7 +6,6 @@ ghost use Rattle.lines.specs.Front.{Holds};
 
 use crate::parse::parse;
 use crate::pending::Pending;
-use arrayvec::ArrayVec;
 use history::calls::Call;
 
 impl Pending {
@@ -15,7 +14,8 @@ impl Pending {
         ensures { Holds result [] }
     {
         Pending {
-            bytes: ArrayVec::new(),
+            bytes: [0; 18],
+            count: 0,
         }
     }
 
@@ -23,8 +23,9 @@ impl Pending {
     pub fn push(&mut self, byte: u8)
         ensures { (line : List ℕ) → Holds self.old line → Holds self.new (line ++ byte ∷ []) }
     {
-        if !self.bytes.is_full() {
-            self.bytes.push(byte);
+        if self.count < 18 {
+            self.bytes[self.count] = byte;
+            self.count += 1;
         }
     }
 
@@ -32,6 +33,6 @@ impl Pending {
     pub fn call(&self) -> Option<Call>
         ensures { (line : List ℕ) → Holds self.now line → MatchOption result ((c : Call) → Says line c → ⊥) (λ c. Says line c) }
     {
-        parse(&self.bytes)
+        parse(&self.bytes[0..self.count])
     }
 }

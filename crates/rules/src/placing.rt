@@ -25,19 +25,19 @@ pub fn formed<'a>(tables: &Tables, numbers: &'a [u16]) -> Option<&'a [u16; PIECE
 {
     numbers
         .as_array::<PIECES>()
-        .filter(|placing| all_placed(tables, *placing))
+        .filter(|_| well_formed(tables, numbers))
 }
 
 // Whether a list of numbers is a placing.
 pub fn well_formed(tables: &Tables, placing: &[u16]) -> bool
     ensures { Decides result (Formed (plan tables.now) placing.now) }
 {
-    formed(tables, placing).is_some()
+    placing.len() == PIECES && all_placed(tables, placing)
 }
 
 // How many pieces are on.
 pub fn pieces_on(placing: &[u16]) -> usize
     ensures { result ≡ on_count placing.now }
 {
-    placing.iter().filter(|p| **p != OFF).count()
+    placing.iter().map(|p| usize::from(*p != OFF)).sum()
 }

@@ -1,5 +1,5 @@
 -- Texts that are put together piece by piece.
-use Rattle.std.proofs.Common.{◌≡◌, ◌⊎◌, ℕ, ◌/◌, ◌%◌, ◌<◌, true, false, cond, List, [], ◌∷◌, ◌++◌, map, length, is_ok, IfOk, Ok, Err, string_bytes, Result, String, sym, refl, ap, ◌∙◌, append-nil, arith}
+use Rattle.std.proofs.Common.{◌≡◌, ◌⊎◌, ℕ, ◌/◌, ◌%◌, ◌<◌, Bool, true, false, cond, List, [], ◌∷◌, ◌++◌, map, length, is_ok, IfOk, Ok, Err, string_bytes, Result, String, sym, refl, ap, ◌∙◌, append_assoc, append-nil, arith}
 use Rattle.std.proofs.lemmas.Bool.{cond-false}
 use Rattle.std.specs.List.{flat_map, join_by, zip}
 use Rattle.std.specs.Fmt.{digit_glyph}
@@ -14,10 +14,14 @@ pub at_ok : {X Y : Type 0} (r : Result X Y) (new more old : List ℕ) → is_ok 
 at_ok (Ok x) new more old ok e = e
 at_ok (Err y) new more old ok e = let z : ◌≡◌ {A = ℕ} 0 1 = cc in absurd (omega arith)
 
--- a byte in hexadecimal
-pub escape-pushed : (b : ℕ) (text piece escaped more : List ℕ) → plain b ≡ false → more ≡ text ++ piece → piece ≡ escaped → escaped ≡ 92 ∷ (120 ∷ (digit_glyph false (b / 16) ∷ (digit_glyph false (b % 16) ∷ []))) → more ≡ text ++ shown b
-escape-pushed b text piece escaped more p e same is =
-    e ∙ ap (λ l. text ++ l) (same ∙ is ∙ sym (cond-false (plain b) (b ∷ []) (92 ∷ (120 ∷ (digit_glyph false (b / 16) ∷ (digit_glyph false (b % 16) ∷ [])))) p))
+-- a byte in hexadecimal, by its parts
+pub escape-pushed : (b h l : ℕ) (text one two three high low : List ℕ) → plain b ≡ false → one ≡ text ++ (92 ∷ (120 ∷ [])) → two ≡ one ++ high → three ≡ two ++ low → high ≡ h ∷ [] → low ≡ l ∷ [] → h ≡ digit_glyph false (b / 16) → l ≡ digit_glyph false (b % 16) → three ≡ text ++ shown b
+escape-pushed b h l text one two three high low p e1 e2 e3 eh el ih il =
+    let s : shown b ≡ 92 ∷ (120 ∷ (digit_glyph false (b / 16) ∷ (digit_glyph false (b % 16) ∷ []))) =
+    ap (λ (t : Bool). cond t (b ∷ []) (92 ∷ (120 ∷ (digit_glyph false (b / 16) ∷ (digit_glyph false (b % 16) ∷ []))))) p in
+    let a = append_assoc (text ++ (92 ∷ (120 ∷ []))) (h ∷ []) (l ∷ []) in
+    let d = append_assoc text (92 ∷ (120 ∷ [])) (h ∷ (l ∷ [])) in
+    cc
 
 joined-map : {X : Type 0} (f : X → List ℕ) (sep : List ℕ) (xs : List X) → flat_map (λ y. sep ++ f y) xs ≡ flat_map (λ y. sep ++ y) (map f xs)
 joined-map f sep [] = refl

@@ -1,5 +1,6 @@
 // The names of resources.
-ghost use Rattle.std.specs.Prelude.{◌≡◌, ◌++◌, map, IfOk, string_bytes, OnOk};
+ghost use Rattle.std.specs.Prelude.{◌≡◌, ◌<◌, false, ◌++◌, map, IfOk, string_bytes, OnOk};
+ghost use Rattle.std.specs.Fmt.{digit_glyph};
 ghost use Rattle.texts.specs.Texts.{plain, shown, quotation, longest};
 
 use std::alloc::{AllocError, Global};
@@ -11,14 +12,27 @@ fn is_plain(byte: u8) -> bool
     matches!(byte, b' '..=b'~') && byte != b'\\'
 }
 
-fn push_shown(heap: Global, text: &mut String, byte: u8) -> Result<(), AllocError>
+fn hex_digit(nibble: u8) -> char
+    requires { nibble < 16 }
+    ensures { result ≡ digit_glyph false nibble }
+{
+    if nibble < 10 {
+        char::from(b'0' + nibble)
+    } else {
+        char::from(b'a' - 10 + nibble)
+    }
+}
+
+// Digit by digit: put together by `{:02x}`, a byte takes three times as long.
+fn push_shown(text: &mut String, byte: u8) -> Result<(), AllocError>
     ensures { OnOk result (string_bytes text.new ≡ string_bytes text.old ++ shown byte) }
 {
     if is_plain(byte) {
         return text.push(char::from(byte));
     }
-    let escaped = format!(in heap; "\\x{byte:02x}")?;
-    text.push_str(&escaped)
+    text.push_str("\\x")?;
+    text.push(hex_digit(byte / 16))?;
+    text.push(hex_digit(byte % 16))
 }
 
 // A name between quotation marks: printable ASCII as it is, a backslash and any other byte as \xNN. It is put together once, as the text that columns are measured by.
@@ -27,7 +41,7 @@ pub fn quoted(heap: Global, name: &[u8]) -> Result<String, AllocError>
 {
     let mut text = String::from_str(heap, "\"")?;
     for byte in name {
-        push_shown(heap, &mut text, *byte)?;
+        push_shown(&mut text, *byte)?;
     }
     text.push('"')?;
     Ok(text)

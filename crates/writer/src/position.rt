@@ -13,7 +13,10 @@ fn needs_size(needs: &[u16; 16]) -> usize
     ensures size { result ≡ length (need_fields 0 needs.now) }
     ensures most { result ≤ 48 }
 {
-    3 * needs.iter().filter(|amount| **amount > 0).count()
+    3 * needs
+        .iter()
+        .map(|amount| usize::from(*amount > 0))
+        .sum::<usize>()
 }
 
 fn put_needs(needs: &[u16; 16], out: &mut Cursor)
